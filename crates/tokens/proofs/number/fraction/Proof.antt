@@ -1,0 +1,28 @@
+-- `number::fraction` meets its contract: by whether there is a byte, and whether it is `.`.
+-- Assumes nothing.
+use Rattle.tokens.proofs.Spelling.{fraction-on, fraction-off, fraction-end}
+use borrow.Author.Needs.{needs}
+use Rattle.tokens.proofs.number.fraction.Statement.{statement}
+use Rattle.tokens.proofs.number.fraction.Tie as tie
+
+shared-slice-read-b : tie.Need-shared-slice-read-b
+shared-slice-read-b c = search needs
+
+add-after : tie.Need-add-after
+add-after c = search needs
+
+digits-requires : tie.Need-digits-requires
+digits-requires c κs = search needs
+
+returns : tie.Need-returns
+returns c = fraction-on _ _ (c .before .before .before .if1 .taken) (c .before .if2 .taken) (c .digits .ensures)
+
+returns-2 : tie.Need-returns-2
+returns-2 c = fraction-off _ _ (c .before .before .if1 .taken) (c .if2 .left)
+
+returns-3 : tie.Need-returns-3
+returns-3 c = fraction-end _ _ (c .before .before .pre) (c .if1 .left)
+
+pub fraction-spec : {M : Type 1} → statement M
+fraction-spec =
+    tie.close (tie.spec shared-slice-read-b add-after digits-requires returns returns-2 returns-3)

@@ -1,0 +1,33 @@
+-- `table::spelled` meets its contract: the span lies in the text, so the part does, and starts where the span does.
+-- Assumes nothing.
+use Prim.Native.Nat.{_+_}
+use native.Mathlib.Omega.{arith}
+use Rattle.tokens.specs.declared.table.Span.{Span}
+use mathlib.Core.Path.{refl, ap}
+use Rattle.tokens.proofs.Tabled.{part-there, part-in}
+use borrow.Author.Needs.{needs}
+use Rattle.tokens.proofs.table.spelled.Statement.{statement}
+use Rattle.tokens.proofs.table.spelled.Tie as tie
+
+span-at-requires : tie.Need-span-at-requires
+span-at-requires c κs = search needs
+
+add-end : tie.Need-add-end
+add-end c = omega (arith, part-in _ _ _ (c .before .span-at .result) (c .before .span-at .ensures))
+
+sub-result : tie.Need-sub-result
+sub-result c = search needs
+
+part-result-start : tie.Need-part-result-start
+part-result-start c = search needs
+
+part-result-end : tie.Need-part-result-end
+part-result-end c = omega (arith, part-in _ _ _ (c .before .span-at .result) (c .before .span-at .ensures))
+
+returns : tie.Need-returns
+returns c = (part-there _ _ _ (c .before .before .span-at .result) (c .before .before .span-at .ensures), (refl, ap (λ (s : Span). s .start + c .before .before .before .before .before .args .text .ptr .1) (c .before .before .span-at .ensures)))
+
+pub spelled-spec : {M : Type 1} → statement M
+spelled-spec =
+    tie.close
+    (tie.spec span-at-requires add-end sub-result part-result-start part-result-end returns)

@@ -1,0 +1,158 @@
+// The table of tokens: its check, and the bytes of a token.
+use crate::kind;
+use crate::limits::TEXT_MAX;
+use crate::limits::TOKENS_MAX;
+use crate::refusal::Refusal;
+ghost use mathlib.Core.Path.{_≡_};
+ghost use mathlib.Core.Bool.{_&&_};
+ghost use Prim.Native.Nat.{_+_};
+ghost use Rattle.tokens.specs.Token.{count as countOf, tokenAt, kindAt, known as knownOf, fits, checkFrom, checkTable, spanAt, spelled as spelledOf};
+
+// A token: its kind, and its span in the text. No token is kind 0 with an empty span.
+pub struct Token {
+    pub kind: u32,
+    pub start: u32,
+    pub length: u32,
+}
+
+// A part of the text.
+pub struct Span {
+    pub start: usize,
+    pub length: usize,
+}
+
+// What the check finds: how many tokens there are, or a refusal and its place.
+pub enum Checked {
+    Good(usize),
+    Refused(Refusal, usize),
+}
+
+// How many whole tokens there are.
+pub fn count(tokens: &[u32]) -> usize
+    ensures { λ r. ⌜ r ≡ countOf (now (tokens .entry)) ⌝ }
+{
+    tokens.len() / 3
+}
+
+// Token n, or none.
+pub fn token_at(tokens: &[u32], n: usize) -> Token
+    ensures { λ r. ⌜ r ≡ tokenAt (now (tokens .entry)) n ⌝ }
+{
+    if n < tokens.len() / 3 {
+        let at = n * 3;
+        let kind = tokens[at];
+        let start = tokens[at + 1];
+        let length = tokens[at + 2];
+        Token {
+            kind,
+            start,
+            length,
+        }
+    } else {
+        Token {
+            kind: 0, // none
+            start: 0,
+            length: 0,
+        }
+    }
+}
+
+// The kind of token n, and 0 where there is none: all that a reader looks at on its way.
+pub fn kind_at(tokens: &[u32], n: usize) -> u32
+    ensures { λ r. ⌜ r ≡ kindAt (now (tokens .entry)) n ⌝ }
+{
+    if n < tokens.len() / 3 {
+        tokens[n * 3]
+    } else {
+        0
+    }
+}
+
+// Is this one of the kinds?
+pub fn known(kind: u32) -> bool
+    ensures { λ r. ⌜ r ≡ knownOf kind ⌝ }
+{
+    if 1 <= kind { kind <= kind::LAST } else { false }
+}
+
+// Does a token's span lie in the text? The sum of two 32-bit numbers cannot wrap here.
+pub fn span_fits(text: &[u8], t: Token) -> bool
+    ensures { λ r. ⌜ r ≡ fits (now (text .entry)) t ⌝ }
+{
+    let start = t.start as usize;
+    let length = t.length as usize;
+    start + length <= text.len()
+}
+
+// Is token n of a known kind, and its span in the text?
+fn token_good(text: &[u8], tokens: &[u32], n: usize) -> bool
+    ensures { λ r. ⌜ r ≡ (knownOf (kindAt (now (tokens .entry)) n) && fits (now (text .entry)) (tokenAt (now (tokens .entry)) n)) ⌝ }
+{
+    let t = token_at(tokens, n);
+    let kind = t.kind;
+    if known(kind) {
+        span_fits(text, t)
+    } else {
+        false
+    }
+}
+
+// Each token in turn, up to the first that is not good.
+fn check_tokens(text: &[u8], tokens: &[u32]) -> Checked
+    ensures { λ r. ⌜ r ≡ checkFrom (now (text .entry)) (now (tokens .entry)) 0 (countOf (now (tokens .entry))) ⌝ }
+{
+    let whole = tokens.len() / 3;
+    let mut n = 0;
+    while n < whole {
+        if !token_good(text, tokens, n) {
+            return Checked::Refused(Refusal::BadTable, n);
+        }
+        n += 1;
+    }
+    Checked::Good(whole)
+}
+
+// The table's check: lengths first, then each token in turn.
+pub fn check_table(text: &[u8], tokens: &[u32]) -> Checked
+    ensures { λ r. ⌜ r ≡ checkTable (now (text .entry)) (now (tokens .entry)) ⌝ }
+{
+    let whole = tokens.len() / 3;
+    if TEXT_MAX < text.len() {
+        return Checked::Refused(Refusal::TooLong, 0);
+    }
+    if TOKENS_MAX < whole {
+        return Checked::Refused(Refusal::TooLong, 0);
+    }
+    if tokens.len() % 3 != 0 {
+        return Checked::Refused(Refusal::BadTable, whole);
+    }
+    check_tokens(text, tokens)
+}
+
+// Where the bytes of token n lie in the text.
+pub fn span_at(text: &[u8], tokens: &[u32], n: usize) -> Span
+    ensures { λ r. ⌜ r ≡ spanAt (now (text .entry)) (now (tokens .entry)) n ⌝ }
+{
+    let t = token_at(tokens, n);
+    let start = t.start as usize;
+    let length = t.length as usize;
+    if span_fits(text, t) {
+        Span { start, length }
+    } else {
+        Span {
+            start: 0, // of the text
+            length: 0,
+        }
+    }
+}
+
+// The bytes of token n, as that part of the text; the empty part at the start where there is no such token or its span is not in the text.
+pub fn spelled<'a>(text: &'a [u8], tokens: &[u32], n: usize) -> &'a [u8]
+    ensures bytes { λ r. ⌜ now r ≡ spelledOf (now (text .entry)) (now (tokens .entry)) n ⌝ }
+    ensures place { λ r. ⌜ (r .ptr .0 ≡ text .entry .ptr .0) × (r .ptr .1 ≡ spanAt (now (text .entry)) (now (tokens .entry)) n .start + text .entry .ptr .1) ⌝ }
+{
+    let span = span_at(text, tokens, n);
+    let start = span.start;
+    let end = start + span.length;
+    &text[start..end]
+}

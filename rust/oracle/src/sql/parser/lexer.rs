@@ -1,0 +1,324 @@
+//! Tokens, and a lexer that hands out a lent token table one token at a time.
+//!
+//! Turning text into tokens is not part of the format, so this lexer reads no
+//! text of its own: it is given kinds and spans. A string or a name is handed
+//! out as the decimal spelling of its token number, which is how a tree's
+//! strings and names lead back to their tokens.
+
+use crate::error::Result;
+use std::cell::Cell;
+use std::fmt::{Display, Formatter};
+
+/// A token as the included parser takes it.
+#[derive(Clone, Debug, PartialEq, Eq)]
+#[allow(missing_docs)]
+pub enum Token {
+    Number(String),
+    String(String),
+    Ident(String),
+    Keyword(Keyword),
+    Asterisk,
+    Caret,
+    CloseParen,
+    Comma,
+    Equal,
+    Exclamation,
+    GreaterThan,
+    GreaterThanOrEqual,
+    LessOrGreaterThan,
+    LessThan,
+    LessThanOrEqual,
+    Minus,
+    NotEqual,
+    OpenParen,
+    Percent,
+    Period,
+    Plus,
+    Semicolon,
+    Slash,
+}
+
+/// A keyword that the included parser names.
+#[derive(Clone, Copy, Debug, PartialEq, Eq)]
+#[allow(missing_docs)]
+pub enum Keyword {
+    Or,
+    And,
+    Like,
+    Is,
+    Not,
+    Null,
+    NaN,
+    True,
+    False,
+    Infinity,
+    As,
+    Asc,
+    Begin,
+    Bool,
+    Boolean,
+    By,
+    Commit,
+    Create,
+    Cross,
+    Default,
+    Delete,
+    Desc,
+    Double,
+    Drop,
+    Exists,
+    Explain,
+    Float,
+    From,
+    Group,
+    Having,
+    If,
+    Index,
+    Inner,
+    Insert,
+    Int,
+    Integer,
+    Into,
+    Join,
+    Key,
+    Left,
+    Limit,
+    Of,
+    Offset,
+    On,
+    Only,
+    Order,
+    Outer,
+    Primary,
+    Read,
+    References,
+    Right,
+    Rollback,
+    Select,
+    Set,
+    String,
+    System,
+    Table,
+    Text,
+    Time,
+    Transaction,
+    Unique,
+    Update,
+    Values,
+    Varchar,
+    Where,
+    Write,
+}
+
+impl From<Keyword> for Token {
+    fn from(keyword: Keyword) -> Self {
+        Token::Keyword(keyword)
+    }
+}
+
+impl Display for Keyword {
+    fn fmt(&self, f: &mut Formatter<'_>) -> std::fmt::Result {
+        write!(f, "{self:?}")
+    }
+}
+
+impl Display for Token {
+    fn fmt(&self, f: &mut Formatter<'_>) -> std::fmt::Result {
+        write!(f, "{self:?}")
+    }
+}
+
+/// What a lexer has handed out so far. It outlives the parser that owns the
+/// lexer, so the place of a refusal can be told afterwards.
+#[derive(Debug, Default)]
+pub struct Progress {
+    /// How many tokens were handed out.
+    pub handed: Cell<usize>,
+    /// Whether a token was asked for after the last one.
+    pub past_end: Cell<bool>,
+    /// Whether a number was handed out whose bytes are not UTF-8, so that the
+    /// parser was given something else.
+    pub outside: Cell<bool>,
+}
+
+/// Hands out the tokens of a table, or tokens that were made before.
+pub struct Lexer<'a> {
+    text: &'a [u8],
+    tokens: &'a [u32],
+    progress: Option<&'a Progress>,
+    next: usize,
+    made: Made<'a>,
+}
+
+/// Tokens that were made before, if a lexer has such.
+enum Made<'a> {
+    /// None: the lexer has a table.
+    No,
+    /// Each is handed out as a copy, its string on the heap copied too.
+    Lent(std::slice::Iter<'a, Token>),
+    /// Each is handed out as it is.
+    Given(std::vec::IntoIter<Token>),
+}
+
+impl<'a> Lexer<'a> {
+    /// The constructor that the included source calls for a statement's text.
+    /// That path is not part of the format: the lexer has no tokens.
+    pub fn new(_text: &'a str) -> Self {
+        Lexer { text: &[], tokens: &[], progress: None, next: 0, made: Made::No }
+    }
+
+    /// A lexer over a good token table: kind, start and length of each token.
+    pub fn over(text: &'a [u8], tokens: &'a [u32], progress: &'a Progress) -> Self {
+        Lexer { text, tokens, progress: Some(progress), next: 0, made: Made::No }
+    }
+
+    /// A lexer that hands out copies of tokens.
+    pub fn lent(tokens: &'a [Token]) -> Self {
+        Lexer { made: Made::Lent(tokens.iter()), ..Lexer::new("") }
+    }
+
+    /// A lexer that hands out tokens as they are.
+    pub fn given(tokens: Vec<Token>) -> Self {
+        Lexer { made: Made::Given(tokens.into_iter()), ..Lexer::new("") }
+    }
+
+    /// The number token's bytes as the parser is given them.
+    fn number(&self, start: u32, length: u32) -> String {
+        let bytes = &self.text[start as usize..start as usize + length as usize];
+        match std::str::from_utf8(bytes) {
+            Ok(spelling) => spelling.to_string(),
+            Err(_) => {
+                if let Some(progress) = self.progress {
+                    progress.outside.set(true);
+                }
+                String::new()
+            }
+        }
+    }
+}
+
+impl Iterator for Lexer<'_> {
+    type Item = Result<Token>;
+
+    fn next(&mut self) -> Option<Self::Item> {
+        match &mut self.made {
+            Made::Lent(tokens) => return tokens.next().cloned().map(Ok),
+            Made::Given(tokens) => return tokens.next().map(Ok),
+            Made::No => {}
+        }
+        let at = self.next;
+        let Some(&[kind, start, length]) = self.tokens.get(3 * at..3 * at + 3) else {
+            if let Some(progress) = self.progress {
+                progress.past_end.set(true);
+            }
+            return None;
+        };
+        self.next += 1;
+        if let Some(progress) = self.progress {
+            progress.handed.set(self.next);
+        }
+        Some(Ok(match kind {
+            1 => Token::Number(self.number(start, length)),
+            2 => Token::String(at.to_string()),
+            3 => Token::Ident(at.to_string()),
+            kind => fixed(kind).expect("the table was checked"),
+        }))
+    }
+}
+
+/// The token of a kind that has no content of its own: a keyword or a sign.
+pub fn fixed(kind: u32) -> Option<Token> {
+    Some(match kind {
+        4 => Token::Keyword(Keyword::Or),
+        5 => Token::Keyword(Keyword::And),
+        6 => Token::Equal,
+        7 => Token::NotEqual,
+        8 => Token::LessOrGreaterThan,
+        9 => Token::Keyword(Keyword::Like),
+        10 => Token::GreaterThan,
+        11 => Token::GreaterThanOrEqual,
+        12 => Token::LessThan,
+        13 => Token::LessThanOrEqual,
+        14 => Token::Plus,
+        15 => Token::Minus,
+        16 => Token::Asterisk,
+        17 => Token::Slash,
+        18 => Token::Percent,
+        19 => Token::Caret,
+        20 => Token::Exclamation,
+        21 => Token::Keyword(Keyword::Is),
+        22 => Token::Keyword(Keyword::Not),
+        23 => Token::Keyword(Keyword::Null),
+        24 => Token::Keyword(Keyword::NaN),
+        25 => Token::Keyword(Keyword::True),
+        26 => Token::Keyword(Keyword::False),
+        27 => Token::Keyword(Keyword::Infinity),
+        28 => Token::OpenParen,
+        29 => Token::CloseParen,
+        30 => Token::Comma,
+        31 => Token::Period,
+        32 => Token::Semicolon,
+        33..=88 => Token::Keyword(WORDS[kind as usize - 33]),
+        _ => return None,
+    })
+}
+
+/// The keywords that no expression uses, kinds 33 to 88.
+const WORDS: [Keyword; 56] = [
+    Keyword::As,
+    Keyword::Asc,
+    Keyword::Begin,
+    Keyword::Bool,
+    Keyword::Boolean,
+    Keyword::By,
+    Keyword::Commit,
+    Keyword::Create,
+    Keyword::Cross,
+    Keyword::Default,
+    Keyword::Delete,
+    Keyword::Desc,
+    Keyword::Double,
+    Keyword::Drop,
+    Keyword::Exists,
+    Keyword::Explain,
+    Keyword::Float,
+    Keyword::From,
+    Keyword::Group,
+    Keyword::Having,
+    Keyword::If,
+    Keyword::Index,
+    Keyword::Inner,
+    Keyword::Insert,
+    Keyword::Int,
+    Keyword::Integer,
+    Keyword::Into,
+    Keyword::Join,
+    Keyword::Key,
+    Keyword::Left,
+    Keyword::Limit,
+    Keyword::Of,
+    Keyword::Offset,
+    Keyword::On,
+    Keyword::Only,
+    Keyword::Order,
+    Keyword::Outer,
+    Keyword::Primary,
+    Keyword::Read,
+    Keyword::References,
+    Keyword::Right,
+    Keyword::Rollback,
+    Keyword::Select,
+    Keyword::Set,
+    Keyword::String,
+    Keyword::System,
+    Keyword::Table,
+    Keyword::Text,
+    Keyword::Time,
+    Keyword::Transaction,
+    Keyword::Unique,
+    Keyword::Update,
+    Keyword::Values,
+    Keyword::Varchar,
+    Keyword::Where,
+    Keyword::Write,
+];

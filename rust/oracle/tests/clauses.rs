@@ -1,0 +1,249 @@
+//! The plain clause list against the included source's, on every small tree
+//! and on random ones.
+
+use oracle::cases::*;
+use oracle::expression;
+use oracle::plain::cells::Kleene;
+use oracle::plain::refusal::*;
+use oracle::plain::{self, limit};
+
+/// Whether an AND, or a NOT over something other than an atom, is left.
+type Left = (bool, bool);
+
+/// Compares the lists of one tree. They agree where the included source leaves
+/// nothing; answers what it left.
+fn compare(tree: &Tree) -> Left {
+    let made = lay(tree);
+    let expected = plain::split(&made.text, &made.rows).expect("a small tree");
+    let clauses = expression::split(&made.text, &made.rows);
+    let left = (clauses.iter().any(|c| c.and_left), clauses.iter().any(|c| c.not_left));
+    let lists: Option<Vec<Vec<u64>>> = clauses.into_iter().map(|c| c.literals).collect();
+    match lists {
+        Some(lists) => {
+            assert_eq!(left, (false, false));
+            assert_eq!(lists, expected, "{tree:?}");
+        }
+        None => assert_ne!(left, (false, false)),
+    }
+    left
+}
+
+/// What the included source will leave, told from the tree alone.
+///
+/// It rewrites a node once, before it goes on to the operands. Where two NOTs
+/// stand on one another both go, and if the next is a NOT again, that one stays
+/// and work goes on below it. So a run of NOTs (the one that a negated AND or
+/// OR hands down counted in) leaves at most one over an atom if it is up to
+/// three long, or five, and none over AND or OR if it is up to two long. After
+/// that, an OR is distributed over an AND that is its own operand, never over
+/// one that only turns up below.
+fn predicted(tree: &Tree) -> Left {
+    match pushed(tree, false) {
+        None => (false, true),
+        Some(tree) => (and_below_or(&tree), false),
+    }
+}
+
+/// The tree with NOTs only on atoms, if the source gets that far.
+fn pushed(tree: &Tree, mut handed_down: bool) -> Option<Tree> {
+    let mut nots = usize::from(handed_down);
+    let mut tree = tree;
+    while let Tree::Unary(9, inner) = tree {
+        nots += 1;
+        tree = inner;
+    }
+    match tree {
+        Tree::Binary(kind @ (7 | 8), left, right) if nots <= 2 => {
+            handed_down = nots == 1;
+            let kind = if handed_down { 15 - kind } else { *kind };
+            let left = pushed(left, handed_down)?;
+            Some(Tree::Binary(kind, Box::new(left), Box::new(pushed(right, handed_down)?)))
+        }
+        Tree::Binary(7 | 8, ..) => None,
+        atom if nots <= 3 || nots == 5 => {
+            Some(if nots % 2 == 1 { not(atom.clone()) } else { atom.clone() })
+        }
+        _ => None,
+    }
+}
+
+/// Whether an AND will be left under an OR.
+fn and_below_or(tree: &Tree) -> bool {
+    match tree {
+        Tree::Binary(7, left, right) => and_below_or(left) || and_below_or(right),
+        Tree::Binary(8, left, right) => match (left.as_ref(), right.as_ref()) {
+            (Tree::Binary(7, a, b), r) => or_leaves(a, r) || or_leaves(b, r),
+            (l, Tree::Binary(7, a, b)) => or_leaves(l, a) || or_leaves(l, b),
+            (l, r) => has_and(l) || has_and(r),
+        },
+        _ => false,
+    }
+}
+
+/// The same for an OR that distributing makes.
+fn or_leaves(left: &Tree, right: &Tree) -> bool {
+    and_below_or(&or(left.clone(), right.clone()))
+}
+
+/// Whether an AND stands in a tree without NOTs over it.
+fn has_and(tree: &Tree) -> bool {
+    match tree {
+        Tree::Binary(7, ..) => true,
+        Tree::Binary(8, left, right) => has_and(left) || has_and(right),
+        _ => false,
+    }
+}
+
+/// Compares many trees and holds each to the prediction.
+fn compare_all(name: &str, trees: &[Tree]) {
+    let (mut ands, mut nots, mut shared) = (0, 0, 0);
+    for tree in trees {
+        let left = compare(tree);
+        let expected = predicted(tree);
+        assert_eq!(left.1, expected.1, "{tree:?}");
+        assert!(left.1 || left.0 == expected.0, "{tree:?}");
+        ands += usize::from(left.0);
+        nots += usize::from(left.1);
+        shared += usize::from(left == (false, false));
+    }
+    println!("{name}: {} trees, {shared} shared, {ands} AND left, {nots} NOT left", trees.len());
+}
+
+#[test]
+fn every_small_tree() {
+    compare_all("one atom", &shapes(0, 1, 9));
+    compare_all("two atoms", &shapes(0, 2, 4));
+    compare_all("three atoms", &shapes(0, 3, 2));
+    compare_all("four atoms", &shapes(0, 4, if cfg!(debug_assertions) { 1 } else { 2 }));
+}
+
+#[test]
+fn random_trees() {
+    let rounds = if cfg!(debug_assertions) { 500 } else { 30_000 };
+    let mut dice = Dice::new(21);
+    let small = |tree: &Tree| {
+        let made = lay(tree);
+        plain::split(&made.text, &made.rows).is_ok_and(|list| list.len() < 300)
+    };
+    let trees: Vec<Tree> = (0..rounds)
+        .map(|n| random_tree(&mut dice, 1 + n % 6, &random_atom))
+        .filter(small)
+        .collect();
+    compare_all("random", &trees);
+}
+
+/// The Kleene value of a tree whose atoms are columns, by their cells.
+fn value(tree: &Tree, cells: &[Kleene]) -> Kleene {
+    match tree {
+        Tree::Column(c) => cells[*c as usize],
+        Tree::Unary(9, inner) => value(inner, cells).not(),
+        Tree::Binary(7, left, right) => value(left, cells).and(value(right, cells)),
+        Tree::Binary(8, left, right) => value(left, cells).or(value(right, cells)),
+        _ => unreachable!("shapes have no other nodes"),
+    }
+}
+
+/// Every choice of Kleene values for some cells.
+fn choices(cells: u32) -> Vec<Vec<Kleene>> {
+    let cell = |n: usize, place: u32| Kleene::ALL[n / 3usize.pow(place) % 3];
+    (0..3usize.pow(cells)).map(|n| (0..cells).map(|place| cell(n, place)).collect()).collect()
+}
+
+/// Holds the plain list, and what the included source makes of the tree, to
+/// the tree's own value, whatever its cells.
+fn keeps_value(tree: &Tree, choices: &[Vec<Kleene>]) {
+    let made = lay(tree);
+    let clauses = plain::split(&made.text, &made.rows).unwrap();
+    for cells in choices {
+        let expected = value(tree, cells);
+        let cell = |row: usize| cells[made.rows[3 * row + 1] as usize];
+        let literal = |l: &u64| {
+            let cell = cell(*l as usize / 2);
+            if l % 2 == 1 { cell.not() } else { cell }
+        };
+        let clause = |c: &Vec<u64>| c.iter().map(literal).fold(Kleene::False, Kleene::or);
+        let list = clauses.iter().map(clause).fold(Kleene::True, Kleene::and);
+        assert_eq!(list, expected, "{tree:?}");
+        assert_eq!(expression::conjunction(&made.rows, &cell), expected, "{tree:?}");
+    }
+}
+
+#[test]
+fn lists_keep_the_kleene_value() {
+    for (atoms, nots) in [(1, 9), (2, 4), (3, 2), (4, 1)] {
+        let choices = choices(atoms);
+        shapes(0, u64::from(atoms), nots).iter().for_each(|tree| keeps_value(tree, &choices));
+    }
+}
+
+#[test]
+fn long_chains_are_shared() {
+    let column = Tree::Column;
+    let chain = |kind: u64, count: u64| {
+        let link = |t, c| Tree::Binary(kind, Box::new(t), Box::new(column(c)));
+        (1..count).fold(column(0), link)
+    };
+    let trees = [
+        chain(7, 1_024),
+        chain(8, 1_024),
+        not(chain(7, 1_023)),
+        not(chain(8, 1_023)),
+        or(column(0), chain(7, 1_000)),
+        or(chain(7, 32), chain(7, 32)),
+    ];
+    for tree in trees {
+        assert_eq!(oracle::deep(|| compare(&tree)), (false, false));
+    }
+}
+
+#[test]
+fn checks_of_rows() {
+    let fault = |text: &[u8], rows: &[u64]| plain::check(text, rows).unwrap_err();
+    let good = |text: &[u8], rows: &[u64]| assert!(plain::check(text, rows).is_ok(), "{rows:?}");
+    assert_eq!(fault(b"", &[]), (BAD_TREE, 0));
+    assert_eq!(fault(b"", &[1, 0]), (BAD_TREE, 0));
+    assert_eq!(fault(b"", &[0, 0, 0, 1]), (BAD_TREE, 1));
+    assert_eq!(fault(&[0; limit::TEXT + 1], &[]), (TOO_LONG, 0));
+    assert_eq!(fault(b"", &[1, 0, 0].repeat(limit::ROWS + 1)), (TOO_LONG, 0));
+    assert_eq!(fault(b"", &[1, 0, 0].repeat(limit::ROWS)), (BAD_TREE, 2_047));
+    assert_eq!(fault(b"", &[[1, 0, 0].repeat(2_048), vec![1]].concat()), (BAD_TREE, 2_048));
+    for bad in [0, 25, u64::MAX] {
+        assert_eq!(fault(b"", &[bad, 0, 0]), (BAD_TREE, 0));
+    }
+    for bad in [[1, 1, 0], [1, 0, 1], [2, 2, 0], [2, 0, 1], [3, 0, 1], [4, 0, 1], [6, 0, 1]] {
+        assert_eq!(fault(b"", &bad), (BAD_TREE, 0), "{bad:?}");
+    }
+    assert_eq!(fault(b"", &[6, 65_536, 0]), (BAD_TREE, 0));
+    good(b"", &[6, 65_535, 0]);
+    good(b"", &[3, u64::MAX, 0]);
+    good(b"", &[4, u64::MAX, 0]);
+    good(b"ab", &[5, 1, 1]);
+    good(b"ab", &[5, 2, 0]);
+    assert_eq!(fault(b"ab", &[5, 1, 2]), (BAD_TREE, 0));
+    assert_eq!(fault(b"ab", &[5, u64::MAX, 3]), (BAD_TREE, 0));
+    // Operands must be the whole subtrees directly before.
+    good(b"", &[6, 0, 0, 9, 0, 0]);
+    assert_eq!(fault(b"", &[6, 0, 0, 9, 0, 1]), (BAD_TREE, 1));
+    assert_eq!(fault(b"", &[6, 0, 0, 9, 1, 0]), (BAD_TREE, 1));
+    assert_eq!(fault(b"", &[9, 0, 0]), (BAD_TREE, 0));
+    assert_eq!(fault(b"", &[6, 0, 0, 7, 0, 0]), (BAD_TREE, 1));
+    good(b"", &[6, 0, 0, 6, 1, 0, 7, 0, 1]);
+    assert_eq!(fault(b"", &[6, 0, 0, 6, 1, 0, 7, 1, 0]), (BAD_TREE, 2));
+    assert_eq!(fault(b"", &[6, 0, 0, 6, 1, 0, 9, 0, 0]), (BAD_TREE, 2));
+    assert_eq!(fault(b"", &[6, 0, 0, 6, 1, 0, 9, 1, 0]), (BAD_TREE, 2));
+    good(b"", &[6, 0, 0, 6, 1, 0, 9, 1, 0, 7, 0, 2]);
+    assert_eq!(fault(b"", &[6, 0, 0, 6, 1, 0, 9, 1, 0, 7, 1, 2]), (BAD_TREE, 3));
+    // Is takes 0 or 1; the first bad row wins over several roots.
+    good(b"", &[6, 0, 0, 13, 0, 1]);
+    assert_eq!(fault(b"", &[6, 0, 0, 13, 0, 2]), (BAD_TREE, 1));
+    assert_eq!(fault(b"", &[1, 0, 0, 1, 0, 0, 0, 0, 0]), (BAD_TREE, 2));
+}
+
+#[test]
+fn lists_that_are_too_short() {
+    let made = lay(&or(and(Tree::Column(0), Tree::Column(1)), Tree::Column(2)));
+    let into = |literals, ends| plain::split_into(&made.text, &made.rows, literals, ends);
+    assert_eq!(into(4, 2), Ok((vec![0, 6, 2, 6], vec![2, 4])));
+    assert_eq!(into(3, 2), Err((NO_LIST, 0)));
+    assert_eq!(into(4, 1), Err((NO_LIST, 0)));
+}

@@ -1,0 +1,210 @@
+//! The plain reading against the included parser: every short token string,
+//! random long ones, and the limits that only the plain reading has.
+
+use oracle::cases::*;
+use oracle::parser::{Reading, read};
+use oracle::plain::refusal::*;
+use oracle::plain::{self, levels_needed, limit, spelled, table_fault};
+
+/// The included parser's answer in the plain reading's form.
+fn included(text: &[u8], tokens: &[u32]) -> Result<Vec<[u64; 3]>, (u64, u64)> {
+    match read(text, tokens) {
+        Reading::Rows(rows) => Ok(rows),
+        Reading::Refused(number, place) => Err((number, place)),
+        Reading::Outside => panic!("these numbers are UTF-8"),
+    }
+}
+
+/// Compares both on every string of `length` tokens out of a table of tokens.
+fn compare_all(made: &Tokens, length: usize) -> u64 {
+    let kinds = made.tokens.len() / 3;
+    let firsts: Vec<usize> = (0..kinds).collect();
+    let halves = firsts.chunks(kinds.div_ceil(2));
+    std::thread::scope(|scope| {
+        let work = halves.map(|half| scope.spawn(|| compare_some(made, half, length)));
+        let work: Vec<_> = work.collect();
+        work.into_iter().map(|thread| thread.join().unwrap()).sum()
+    })
+}
+
+/// The same for the strings that begin with one of `firsts`.
+fn compare_some(made: &Tokens, firsts: &[usize], length: usize) -> u64 {
+    let kinds = made.tokens.len() / 3;
+    let tails = kinds.pow(length as u32 - 1);
+    let mut tokens = vec![0; 3 * length];
+    let mut compared = 0;
+    for &first in firsts {
+        for tail in 0..tails {
+            let mut rest = tail;
+            for place in 0..length {
+                let n = if place == 0 { first } else { rest % kinds };
+                if place > 0 {
+                    rest /= kinds;
+                }
+                tokens[3 * place..3 * place + 3].copy_from_slice(&made.tokens[3 * n..3 * n + 3]);
+            }
+            let plain = plain::parse(&made.text, &tokens, limit::ROWS, limit::LEVELS);
+            assert_eq!(plain, included(&made.text, &tokens), "{tokens:?}");
+            compared += 1;
+        }
+    }
+    compared
+}
+
+/// The kinds that expressions use, the number in three spellings, and one kind
+/// that they do not use.
+const EVERY: &str = "1 1.5 1x 'x a OR AND = != <> LIKE > >= < <= + - * / % ^ ! IS NOT NULL NAN \
+                     TRUE FALSE INFINITY ( ) , . ;";
+
+/// One kind for each part that a kind can play.
+const PARTS: &str = "1 a OR AND = < + - * ^ ! IS NOT NULL NAN ( ) , .";
+
+#[test]
+fn every_short_string_reads_alike() {
+    let longest = if cfg!(debug_assertions) { 3 } else { 5 };
+    let made = words(EVERY);
+    let compared: u64 = (1..=longest).map(|length| compare_all(&made, length)).sum();
+    println!("{compared} strings over {} tokens", made.tokens.len() / 3);
+}
+
+/// About ten seconds more: `cargo test --release -p oracle -- --ignored`.
+#[test]
+#[ignore = "47 million strings"]
+fn every_string_of_six_parts_reads_alike() {
+    println!("{} strings of 6 tokens", compare_all(&words(PARTS), 6));
+}
+
+#[test]
+fn random_expressions_read_alike() {
+    let rounds = if cfg!(debug_assertions) { 3_000 } else { 100_000 };
+    let mut dice = Dice::new(11);
+    let mut accepted = 0;
+    for round in 0..rounds {
+        let mut line = random_expression(&mut dice, 1 + round % 7);
+        if round % 3 == 0 {
+            line = spoil(&mut dice, &line);
+        }
+        let made = words(&line);
+        let plain = plain::parse(&made.text, &made.tokens, limit::ROWS, limit::LEVELS);
+        assert_eq!(plain, included(&made.text, &made.tokens), "{line}");
+        accepted += usize::from(plain.is_ok());
+        levels_bound(&made);
+    }
+    println!("{accepted} of {rounds} accepted");
+}
+
+/// The level limit decides exactly by the levels that a reading needs.
+fn levels_bound(made: &Tokens) {
+    let needed = levels_needed(&made.text, &made.tokens);
+    let free = included(&made.text, &made.tokens);
+    let at = |levels| plain::parse(&made.text, &made.tokens, limit::ROWS, levels);
+    assert_eq!(at(needed), free);
+    assert_eq!(at(needed - 1).unwrap_err().0, TOO_DEEP);
+}
+
+#[test]
+fn levels() {
+    let parse = |line: &str| {
+        let made = words(line);
+        plain::parse(&made.text, &made.tokens, limit::ROWS, limit::LEVELS).map(|rows| rows.len())
+    };
+    assert_eq!(parse(&format!("{}a", "NOT ".repeat(63))), Ok(64));
+    assert_eq!(parse(&format!("{}a", "NOT ".repeat(64))), Err((TOO_DEEP, 64)));
+    assert_eq!(parse(&format!("{}1", "1 ^ ".repeat(63))), Ok(127));
+    assert_eq!(parse(&format!("{}1", "1 ^ ".repeat(64))), Err((TOO_DEEP, 128)));
+    assert_eq!(parse(&format!("{}1", "1 + ".repeat(64))), Ok(129));
+    // A level is refused before its first token is looked at, here and there.
+    assert_eq!(parse(&"( ".repeat(63)), Err((END, 63)));
+    assert_eq!(parse(&"( ".repeat(64)), Err((TOO_DEEP, 64)));
+    assert_eq!(parse(&format!("{};", "( ".repeat(64))), Err((TOO_DEEP, 64)));
+    assert_eq!(parse(&format!("{}f ( )", "( ".repeat(63))), Err((END, 66)));
+    assert_eq!(parse(&format!("{}f (", "( ".repeat(63))), Err((TOO_DEEP, 65)));
+}
+
+#[test]
+fn rooms() {
+    let place = |line: &str, room: usize| {
+        let made = words(line);
+        plain::parse(&made.text, &made.tokens, room, limit::LEVELS).unwrap_err()
+    };
+    assert_eq!(place("a", 0), (NO_ROOM, 1));
+    assert_eq!(place("( a )", 0), (NO_ROOM, 2));
+    assert_eq!(place("a . b", 0), (NO_ROOM, 3));
+    assert_eq!(place("f ( )", 0), (NO_ROOM, 3));
+    assert_eq!(place("1 + 2", 0), (NO_ROOM, 1));
+    assert_eq!(place("1 + 2", 1), (NO_ROOM, 3));
+    assert_eq!(place("1 + 2", 2), (NO_ROOM, 3));
+    assert_eq!(place("- a", 0), (NO_ROOM, 2));
+    assert_eq!(place("- a", 1), (NO_ROOM, 2));
+    assert_eq!(place("a ! b", 1), (NO_ROOM, 2));
+    assert_eq!(place("a IS NOT NULL", 1), (NO_ROOM, 4));
+    assert_eq!(place("a IS NOT NULL", 2), (NO_ROOM, 4));
+    // The number rule comes before the row; a wrong token before the row, too.
+    assert_eq!(place("1x", 0), (BAD_NUMBER, 0));
+    assert_eq!(place("a . 1", 0), (WRONG_TOKEN, 2));
+}
+
+#[test]
+fn no_more_rows_than_the_maximum() {
+    let line = |numbers: usize| format!("{}1", "1 + ".repeat(numbers - 1));
+    let parse = |line: &str| {
+        let made = words(line);
+        plain::parse(&made.text, &made.tokens, usize::MAX, limit::LEVELS).map(|rows| rows.len())
+    };
+    assert_eq!(parse(&line(1_024)), Ok(2_047));
+    assert_eq!(parse(&format!("- {}", line(1_024))), Ok(2_048));
+    // Row 2,049 is the last Add; all 2,049 tokens are read by then.
+    assert_eq!(parse(&line(1_025)), Err((NO_ROOM, 2_049)));
+}
+
+#[test]
+fn tables() {
+    let text = vec![b'1'; limit::TEXT];
+    assert_eq!(table_fault(&text, &[1, 0, 16_384]), None);
+    assert_eq!(table_fault(&text, &[1, 1, 16_384]), Some((BAD_TABLE, 0)));
+    assert_eq!(table_fault(&text, &[1, 16_384, 0]), None);
+    assert_eq!(table_fault(&text, &[1, 0, 1, 1, u32::MAX, 2]), Some((BAD_TABLE, 1)));
+    assert_eq!(table_fault(&text, &[88, 0, 0, 89, 0, 0]), Some((BAD_TABLE, 1)));
+    assert_eq!(table_fault(&text, &[0, 0, 0]), Some((BAD_TABLE, 0)));
+    // A length that is no multiple of three comes before the tokens' faults.
+    assert_eq!(table_fault(&text, &[0, 0, 0, 1]), Some((BAD_TABLE, 1)));
+    assert_eq!(table_fault(&text, &[1, 0]), Some((BAD_TABLE, 0)));
+    assert_eq!(table_fault(&[b'1'; limit::TEXT + 1], &[0]), Some((TOO_LONG, 0)));
+    let most = [1, 0, 1].repeat(limit::TOKENS);
+    assert_eq!(table_fault(&text, &most), None);
+    assert_eq!(table_fault(&text, &[most.clone(), vec![1, 0]].concat()), Some((BAD_TABLE, 4_096)));
+    assert_eq!(table_fault(&text, &[most, vec![1, 0, 1]].concat()), Some((TOO_LONG, 0)));
+}
+
+#[test]
+fn spelled_parts() {
+    let tokens = [3, 1, 2, 3, 2, 9, 99, 0, 3, 1, 1];
+    assert_eq!(spelled(b"abc", &tokens, 0), (1, 2));
+    assert_eq!(spelled(b"abc", &tokens, 1), (0, 0));
+    assert_eq!(spelled(b"abc", &tokens, 2), (0, 3));
+    assert_eq!(spelled(b"abc", &tokens, 3), (0, 0));
+    assert_eq!(spelled(b"abc", &tokens, usize::MAX), (0, 0));
+}
+
+#[test]
+fn a_number_that_is_not_text_is_outside() {
+    let tokens = [1, 0, 1];
+    assert_eq!(read(&[0xff], &tokens), Reading::Outside);
+    assert_eq!(plain::parse(&[0xff], &tokens, 1, 1), Err((BAD_NUMBER, 0)));
+    // Names and strings may hold any bytes: the parser only passes them on.
+    assert_eq!(read(&[0xff], &[3, 0, 1]), Reading::Rows(vec![[9, 0, 0]]));
+}
+
+#[test]
+fn every_kind_is_another_token() {
+    let fixed = oracle::sql::parser::lexer::fixed;
+    let tokens: Vec<_> = (4..=88).map(|kind| fixed(kind).unwrap()).collect();
+    for (n, token) in tokens.iter().enumerate() {
+        assert!(!tokens[..n].contains(token), "kind {} is not its own", n + 4);
+        // A keyword's name in the included source is its spelling.
+        if let oracle::sql::parser::Token::Keyword(keyword) = token {
+            assert_eq!(format!("{keyword:?}").to_uppercase(), SPELLED[n]);
+        }
+    }
+    assert!(fixed(3).is_none() && fixed(89).is_none());
+}
