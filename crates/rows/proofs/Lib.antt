@@ -1,0 +1,4 @@
+-- Laws of the layout, of parts of a row table, and of operands on a stack, for the crates above.
+pub mod Laws
+pub mod Parts
+pub mod Standing

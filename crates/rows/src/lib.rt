@@ -1,0 +1,75 @@
+// The layout that both families of rows share: how many numbers a row has, and the one function that reads a row and the one that writes one.
+// What the numbers of a row mean is each family's own.
+use tokens::limits::ROWS_MAX;
+ghost use mathlib.Core.Path.{_≡_};
+ghost use Prim.Native.Nat.{_*_, _<_};
+ghost use lib.ListN.{length, replicate};
+ghost use lib.Seq.{sets};
+ghost use Rattle.rows.specs.Layout.{width, numbers, count as countOf, onlyWhole, capacity as capacityOf, rowAt};
+
+// Numbers per row.
+const WIDTH: usize = 3;
+
+// A row, as its numbers.
+pub struct Row {
+    pub kind: u64,
+    pub x: u64,
+    pub y: u64,
+}
+
+// How many whole rows a table has.
+pub fn count(rows: &[u64]) -> usize
+    ensures { λ r. ⌜ r ≡ countOf (now (rows .entry)) ⌝ }
+{
+    rows.len() / WIDTH
+}
+
+// Has a table no number that is in no whole row?
+pub fn only_whole(rows: &[u64]) -> bool
+    ensures { λ r. ⌜ r ≡ onlyWhole (now (rows .entry)) ⌝ }
+{
+    rows.len() % WIDTH == 0
+}
+
+// How many rows a table takes: its whole rows, up to the maximum.
+pub fn capacity(rows: &[u64]) -> usize
+    ensures { λ r. ⌜ r ≡ capacityOf (now (rows .entry)) ⌝ }
+{
+    let whole = count(rows);
+    if whole <= ROWS_MAX { whole } else { ROWS_MAX }
+}
+
+// Row n.
+pub fn row_at(rows: &[u64], n: usize) -> Row
+    requires { ⌜ n < countOf (now rows) ⌝ }
+    ensures { λ r. ⌜ r ≡ rowAt (now (rows .entry)) n ⌝ }
+{
+    let at = n * WIDTH;
+    Row {
+        kind: rows[at],
+        x: rows[at + 1],
+        y: rows[at + 2],
+    }
+}
+
+// Row n is set to `row`, and nothing else changes.
+pub fn write_row(rows: &mut [u64], n: usize, row: Row)
+    requires { ⌜ n < countOf (now rows) ⌝ }
+    ensures { λ _. ⌜ now (rows .exit) ≡ sets (now (rows .entry)) (n * width) (numbers row) ⌝ }
+{
+    let at = n * WIDTH;
+    rows[at] = row.kind;
+    rows[at + 1] = row.x;
+    rows[at + 2] = row.y;
+}
+
+// Every number is set to 0, also those that are in no whole row.
+pub fn clear(rows: &mut [u64])
+    ensures { λ _. ⌜ now (rows .exit) ≡ replicate (length (now (rows .entry))) 0 ⌝ }
+{
+    let mut i = 0;
+    while i < rows.len() {
+        rows[i] = 0;
+        i += 1;
+    }
+}

@@ -1,0 +1,14 @@
+-- Laws of the definitions, that the functions' proofs cite, and the theorems about reading.
+pub mod Among
+pub mod Steps
+pub mod Going
+pub mod Laid
+pub mod Trees
+pub mod Promised
+pub mod Onward
+pub mod Fuel
+pub mod Exact
+pub mod Room
+pub mod Unlimited
+pub mod Standing
+pub mod Kinded

@@ -1,0 +1,108 @@
+-- The measures of the cycle: the levels left, and a rank of each member below its callers' at the same level.
+-- Assumes nothing.
+use Prim.Native.Nat.{ℕ, _+_, _*_, _<_}
+use borrow.Fn.Kinds.{In}
+use borrow.Fn.PlainCycle.{Measures, is, falls, and}
+use Rattle.syntax.proofs.expression.argument.Reads as argument
+use Rattle.syntax.proofs.expression.arguments.Reads as arguments
+use Rattle.syntax.proofs.expression.atom.Reads as atom
+use Rattle.syntax.proofs.expression.expression.Reads as expression
+use Rattle.syntax.proofs.expression.group.Reads as group
+use Rattle.syntax.proofs.expression.infixed.Reads as infixed
+use Rattle.syntax.proofs.expression.infixes.Reads as infixes
+use Rattle.syntax.proofs.expression.named.Reads as named
+use Rattle.syntax.proofs.expression.operand.Reads as operand
+use Rattle.syntax.proofs.expression.argument.Kinds as argument-kinds
+use Rattle.syntax.proofs.expression.arguments.Kinds as arguments-kinds
+use Rattle.syntax.proofs.expression.atom.Kinds as atom-kinds
+use Rattle.syntax.proofs.expression.expression.Kinds as expression-kinds
+use Rattle.syntax.proofs.expression.group.Kinds as group-kinds
+use Rattle.syntax.proofs.expression.infixed.Kinds as infixed-kinds
+use Rattle.syntax.proofs.expression.infixes.Kinds as infixes-kinds
+use Rattle.syntax.proofs.expression.named.Kinds as named-kinds
+use Rattle.syntax.proofs.expression.operand.Kinds as operand-kinds
+
+abbrev pub μ-argument : Measures 3 argument-kinds.ps ℕ
+μ-argument κs a = 8 * a .1 .1 .1 .1 .0 + 3
+
+abbrev pub μ-arguments : Measures 3 arguments-kinds.ps ℕ
+μ-arguments κs a = 8 * a .1 .1 .1 .1 .0 + 4
+
+abbrev pub μ-atom : Measures 3 atom-kinds.ps ℕ
+μ-atom κs a = 8 * a .1 .1 .1 .1 .0 + 6
+
+abbrev pub μ-expression : Measures 3 expression-kinds.ps ℕ
+μ-expression κs a = 8 * a .1 .1 .1 .1 .0
+
+abbrev pub μ-group : Measures 3 group-kinds.ps ℕ
+μ-group κs a = 8 * a .1 .1 .1 .1 .0 + 5
+
+abbrev pub μ-infixed : Measures 3 infixed-kinds.ps ℕ
+μ-infixed κs a = 8 * a .1 .1 .1 .1 .0 + 6
+
+abbrev pub μ-infixes : Measures 3 infixes-kinds.ps ℕ
+μ-infixes κs a = 8 * a .1 .1 .1 .1 .0 + 7
+
+abbrev pub μ-named : Measures 3 named-kinds.ps ℕ
+μ-named κs a = 8 * a .1 .1 .1 .1 .0 + 5
+
+abbrev pub μ-operand : Measures 3 operand-kinds.ps ℕ
+μ-operand κs a = 8 * a .1 .1 .1 .1 .0 + 7
+
+abbrev pub argument-at : ℕ → In 3 argument-kinds.ps
+argument-at t = and 3 argument-kinds.ps (is 3 argument-kinds.ps μ-argument t) argument.Pre
+
+abbrev pub argument-below : ℕ → In 3 argument-kinds.ps
+argument-below t =
+    and 3 argument-kinds.ps (falls 3 argument-kinds.ps _<_ μ-argument t) argument.Pre
+
+abbrev pub arguments-at : ℕ → In 3 arguments-kinds.ps
+arguments-at t = and 3 arguments-kinds.ps (is 3 arguments-kinds.ps μ-arguments t) arguments.Pre
+
+abbrev pub arguments-below : ℕ → In 3 arguments-kinds.ps
+arguments-below t =
+    and 3 arguments-kinds.ps (falls 3 arguments-kinds.ps _<_ μ-arguments t) arguments.Pre
+
+abbrev pub atom-at : ℕ → In 3 atom-kinds.ps
+atom-at t = and 3 atom-kinds.ps (is 3 atom-kinds.ps μ-atom t) atom.Pre
+
+abbrev pub atom-below : ℕ → In 3 atom-kinds.ps
+atom-below t = and 3 atom-kinds.ps (falls 3 atom-kinds.ps _<_ μ-atom t) atom.Pre
+
+abbrev pub expression-at : ℕ → In 3 expression-kinds.ps
+expression-at t =
+    and 3 expression-kinds.ps (is 3 expression-kinds.ps μ-expression t) expression.Pre
+
+abbrev pub expression-below : ℕ → In 3 expression-kinds.ps
+expression-below t =
+    and 3 expression-kinds.ps (falls 3 expression-kinds.ps _<_ μ-expression t) expression.Pre
+
+abbrev pub group-at : ℕ → In 3 group-kinds.ps
+group-at t = and 3 group-kinds.ps (is 3 group-kinds.ps μ-group t) group.Pre
+
+abbrev pub group-below : ℕ → In 3 group-kinds.ps
+group-below t = and 3 group-kinds.ps (falls 3 group-kinds.ps _<_ μ-group t) group.Pre
+
+abbrev pub infixed-at : ℕ → In 3 infixed-kinds.ps
+infixed-at t = and 3 infixed-kinds.ps (is 3 infixed-kinds.ps μ-infixed t) infixed.Pre
+
+abbrev pub infixed-below : ℕ → In 3 infixed-kinds.ps
+infixed-below t = and 3 infixed-kinds.ps (falls 3 infixed-kinds.ps _<_ μ-infixed t) infixed.Pre
+
+abbrev pub infixes-at : ℕ → In 3 infixes-kinds.ps
+infixes-at t = and 3 infixes-kinds.ps (is 3 infixes-kinds.ps μ-infixes t) infixes.Pre
+
+abbrev pub infixes-below : ℕ → In 3 infixes-kinds.ps
+infixes-below t = and 3 infixes-kinds.ps (falls 3 infixes-kinds.ps _<_ μ-infixes t) infixes.Pre
+
+abbrev pub named-at : ℕ → In 3 named-kinds.ps
+named-at t = and 3 named-kinds.ps (is 3 named-kinds.ps μ-named t) named.Pre
+
+abbrev pub named-below : ℕ → In 3 named-kinds.ps
+named-below t = and 3 named-kinds.ps (falls 3 named-kinds.ps _<_ μ-named t) named.Pre
+
+abbrev pub operand-at : ℕ → In 3 operand-kinds.ps
+operand-at t = and 3 operand-kinds.ps (is 3 operand-kinds.ps μ-operand t) operand.Pre
+
+abbrev pub operand-below : ℕ → In 3 operand-kinds.ps
+operand-below t = and 3 operand-kinds.ps (falls 3 operand-kinds.ps _<_ μ-operand t) operand.Pre

@@ -1,0 +1,23 @@
+-- `expression::infix_at` meets its contract: by what it calls.
+-- Assumes nothing.
+use mathlib.Core.Path.{ap, _∙_}
+use Prim.Native.Nat.{ℕ}
+use Rattle.syntax.specs.Operator.{infixOf, binds}
+use borrow.Author.Needs.{needs}
+use Rattle.syntax.proofs.expression.infix_at.Statement.{statement}
+use Rattle.syntax.proofs.expression.infix_at.Tie as tie
+
+kind-at-requires : tie.Need-kind-at-requires
+kind-at-requires c κs = search needs
+
+precedence-of-requires : tie.Need-precedence-of-requires
+precedence-of-requires c κs = search needs
+
+binds-requires : tie.Need-binds-requires
+binds-requires c κs = search needs
+
+returns : tie.Need-returns
+returns c = c .binds .ensures ∙ ap (λ (p : ℕ). binds p (c .before .before .before .before .args .min)) (c .before .precedence-of .ensures ∙ ap (λ (k : ℕ). infixOf k .precedence) (c .before .before .kind-at .ensures))
+
+pub infix-at-spec : {M : Type 1} → statement M
+infix-at-spec = tie.close (tie.spec kind-at-requires precedence-of-requires binds-requires returns)

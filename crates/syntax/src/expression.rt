@@ -1,0 +1,312 @@
+// The reader at a minimum precedence, and the reader of atoms: each calls the other, with fewer levels left each time round.
+//
+// A call that stays a call in the compiled code is lent `&*text` and `&*tokens`: so the compiler keeps a slice's two halves apart, and reads take half
+// the time.
+use crate::kind as row;
+use crate::operator;
+use crate::operator::Start;
+use crate::postfix::any_postfixes;
+use crate::postfix::postfix_at;
+use crate::postfix::postfixes;
+use crate::step::Cursor;
+use crate::step::Step;
+use crate::step::leaf;
+use crate::step::need;
+use crate::step::over;
+use crate::step::put;
+use rows::Row;
+use tokens::kind;
+use tokens::number;
+use tokens::number::Number;
+use tokens::refusal::Refusal;
+use tokens::table;
+use tokens::table::kind_at;
+ghost use mathlib.Core.Path.{_≡_};
+ghost use Prim.Native.Nat.{_≤_, _<_};
+ghost use Rattle.tokens.specs.Token.{count, kindAt, spelled};
+ghost use Rattle.tokens.specs.Number.{numberOf};
+ghost use Rattle.syntax.specs.Operator.{infixOf, binds, startOf};
+ghost use Rattle.syntax.specs.Memory.{Gives, numeral as numeralOf, column as columnOf, expression as expressionOf, operand as operandOf, atom as atomOf, group as groupOf, named as namedOf, arguments as argumentsOf, argument as argumentOf, infixes as infixesOf, infixed as infixedOf, fuel};
+
+// A number.
+fn numeral(text: &[u8], tokens: &[u32], rows: &mut [u64], c: Cursor) -> Step
+    requires { ⌜ c .at < count (now tokens) ⌝ }
+    ensures { λ r. ⌜ Gives (numeralOf (numberOf (spelled (now (text .entry)) (now (tokens .entry)) (c .at))) c (now (rows .entry))) r (now (rows .exit)) ⌝ }
+{
+    let at = c.at;
+    match number::number_of(table::spelled(text, tokens, at)) {
+        Number::Integer(n) => leaf(rows, c, row::INTEGER, n),
+        Number::Float => leaf(rows, c, row::FLOAT, at as u64),
+        Number::Neither => Step::Refused(Refusal::BadNumber, at),
+    }
+}
+
+// A column: name.name or name.
+fn column(tokens: &[u32], rows: &mut [u64], c: Cursor) -> Step
+    requires { ⌜ c .at < count (now tokens) ⌝ }
+    ensures { λ r. ⌜ Gives (columnOf (now (tokens .entry)) c (now (rows .entry))) r (now (rows .exit)) ⌝ }
+{
+    let at = c.at;
+    let n = c.rows;
+    let after = at + 1;
+    if kind_at(tokens, after) != kind::PERIOD {
+        return leaf(rows, c, row::COLUMN, at as u64);
+    }
+    let name = at + 2;
+    let s = need(
+        tokens,
+        Cursor { at: name, rows: n },
+        kind::IDENT,
+        Refusal::WrongToken,
+    );
+    let Step::Read(d) = s else {
+        return s;
+    };
+    put(
+        rows,
+        d,
+        Row {
+            kind: row::QUALIFIED,
+            x: at as u64,
+            y: name as u64,
+        },
+    )
+}
+
+// An expression at the minimum `min`: one level.
+pub fn expression(
+    text: &[u8],
+    tokens: &[u32],
+    rows: &mut [u64],
+    c: Cursor,
+    levels: usize,
+    min: u32,
+) -> Step
+    requires { ⌜ c .at ≤ count (now tokens) ⌝ }
+    ensures { λ r. ⌜ Gives (expressionOf (now (text .entry)) (now (tokens .entry)) levels min c (now (rows .entry))) r (now (rows .exit)) ⌝ }
+{
+    let at = c.at;
+    if levels == 0 {
+        return Step::Refused(Refusal::TooDeep, at);
+    }
+    let rest = levels - 1;
+    let first = operand(text, tokens, rows, c, rest, min);
+    let Step::Read(a) = first else {
+        return first;
+    };
+    let second = any_postfixes(tokens, rows, a, min);
+    let Step::Read(b) = second else {
+        return second;
+    };
+    let third = infixes(text, tokens, rows, b, rest, min);
+    let Step::Read(d) = third else {
+        return third;
+    };
+    let end = d.at;
+    if !postfix_at(tokens, end, min) {
+        return Step::Read(d);
+    }
+    postfixes(&*tokens, rows, d, min)
+}
+
+// A prefix operator of at least `min` with its operand, else an atom.
+fn operand(text: &[u8], tokens: &[u32], rows: &mut [u64], c: Cursor, rest: usize, min: u32) -> Step
+    requires { ⌜ c .at ≤ count (now tokens) ⌝ }
+    ensures { λ r. ⌜ Gives (operandOf (now (text .entry)) (now (tokens .entry)) (expressionOf (now (text .entry)) (now (tokens .entry)) rest) min c (now (rows .entry))) r (now (rows .exit)) ⌝ }
+{
+    let at = c.at;
+    let n = c.rows;
+    let k = kind_at(tokens, at);
+    let precedence = operator::prefix_of(k);
+    if !operator::binds(precedence, min) {
+        return atom(text, tokens, rows, c, rest);
+    }
+    let after = at + 1;
+    let s = expression(
+        &*text,
+        &*tokens,
+        rows,
+        Cursor { at: after, rows: n },
+        rest,
+        precedence,
+    );
+    let Step::Read(d) = s else {
+        return s;
+    };
+    over(rows, d, operator::prefix_row_of(k), 0)
+}
+
+// An atom.
+fn atom(text: &[u8], tokens: &[u32], rows: &mut [u64], c: Cursor, rest: usize) -> Step
+    requires { ⌜ c .at ≤ count (now tokens) ⌝ }
+    ensures { λ r. ⌜ Gives (atomOf (now (text .entry)) (now (tokens .entry)) (expressionOf (now (text .entry)) (now (tokens .entry)) rest) (startOf (kindAt (now (tokens .entry)) (c .at))) c (now (rows .entry))) r (now (rows .exit)) ⌝ }
+{
+    let at = c.at;
+    match operator::start_of(kind_at(tokens, at)) {
+        Start::Nothing => Step::Refused(Refusal::End, at),
+        Start::Number => numeral(text, tokens, rows, c),
+        Start::Text => leaf(rows, c, row::STRING, at as u64),
+        Start::Name => named(text, tokens, rows, c, rest),
+        Start::Paren => group(text, tokens, rows, c, rest),
+        Start::Plain(kind, x) => leaf(rows, c, kind, x),
+        Start::Other => Step::Refused(Refusal::NoAtom, at),
+    }
+}
+
+// An expression in parentheses.
+fn group(text: &[u8], tokens: &[u32], rows: &mut [u64], c: Cursor, rest: usize) -> Step
+    requires { ⌜ c .at < count (now tokens) ⌝ }
+    ensures { λ r. ⌜ Gives (groupOf (now (text .entry)) (now (tokens .entry)) (expressionOf (now (text .entry)) (now (tokens .entry)) rest) c (now (rows .entry))) r (now (rows .exit)) ⌝ }
+{
+    let n = c.rows;
+    let after = c.at + 1;
+    let s = expression(
+        &*text,
+        &*tokens,
+        rows,
+        Cursor { at: after, rows: n },
+        rest,
+        0,
+    );
+    let Step::Read(d) = s else {
+        return s;
+    };
+    need(tokens, d, kind::CLOSE_PAREN, Refusal::WrongToken)
+}
+
+// A name: a function, where a parenthesis opens after it, else a column.
+fn named(text: &[u8], tokens: &[u32], rows: &mut [u64], c: Cursor, rest: usize) -> Step
+    requires { ⌜ c .at < count (now tokens) ⌝ }
+    ensures { λ r. ⌜ Gives (namedOf (now (text .entry)) (now (tokens .entry)) (expressionOf (now (text .entry)) (now (tokens .entry)) rest) c (now (rows .entry))) r (now (rows .exit)) ⌝ }
+{
+    let at = c.at;
+    let n = c.rows;
+    let after = at + 1;
+    if kind_at(tokens, after) != kind::OPEN_PAREN {
+        return column(tokens, rows, c);
+    }
+    let first = at + 2;
+    arguments(text, tokens, rows, Cursor { at: first, rows: n }, rest, at)
+}
+
+// The arguments of the function that token `name` names, up to the closing parenthesis, and the function's row.
+fn arguments(
+    text: &[u8],
+    tokens: &[u32],
+    rows: &mut [u64],
+    start: Cursor,
+    rest: usize,
+    name: usize,
+) -> Step
+    requires { ⌜ start .at ≤ count (now tokens) ⌝ }
+    ensures { λ r. ⌜ Gives (argumentsOf (now (text .entry)) (now (tokens .entry)) (expressionOf (now (text .entry)) (now (tokens .entry)) rest) name 0 (fuel (now (tokens .entry))) start (now (rows .entry))) r (now (rows .exit)) ⌝ }
+{
+    let mut c = start;
+    let mut n = 0usize;
+    loop {
+        let at = c.at;
+        let used = c.rows;
+        if kind_at(tokens, at) == kind::CLOSE_PAREN {
+            let after = at + 1;
+            return put(
+                rows,
+                Cursor {
+                    at: after,
+                    rows: used,
+                },
+                Row {
+                    kind: row::FUNCTION,
+                    x: name as u64,
+                    y: n as u64,
+                },
+            );
+        }
+        let s = argument(text, tokens, rows, c, rest, n);
+        let Step::Read(next) = s else {
+            return s;
+        };
+        c = next;
+        n += 1;
+    }
+}
+
+// An argument, after a comma if it is not the first.
+fn argument(text: &[u8], tokens: &[u32], rows: &mut [u64], c: Cursor, rest: usize, n: usize) -> Step
+    requires { ⌜ c .at ≤ count (now tokens) ⌝ }
+    ensures { λ r. ⌜ Gives (argumentOf (now (text .entry)) (now (tokens .entry)) (expressionOf (now (text .entry)) (now (tokens .entry)) rest) n c (now (rows .entry))) r (now (rows .exit)) ⌝ }
+{
+    if n == 0 {
+        return expression(&*text, &*tokens, rows, c, rest, 0);
+    }
+    let s = need(tokens, c, kind::COMMA, Refusal::WrongToken);
+    let Step::Read(d) = s else {
+        return s;
+    };
+    expression(&*text, &*tokens, rows, d, rest, 0)
+}
+
+// The infix operators of at least `min` with their right sides, while there are any.
+fn infixes(
+    text: &[u8],
+    tokens: &[u32],
+    rows: &mut [u64],
+    start: Cursor,
+    rest: usize,
+    min: u32,
+) -> Step
+    requires { ⌜ (start .at ≤ count (now tokens)) × (0 < start .rows) ⌝ }
+    ensures { λ r. ⌜ Gives (infixesOf (now (text .entry)) (now (tokens .entry)) (expressionOf (now (text .entry)) (now (tokens .entry)) rest) min start (now (rows .entry))) r (now (rows .exit)) ⌝ }
+{
+    let mut c = start;
+    loop {
+        let at = c.at;
+        if !infix_at(tokens, at, min) {
+            return Step::Read(c);
+        }
+        let s = infixed(text, tokens, rows, c, rest);
+        let Step::Read(next) = s else {
+            return s;
+        };
+        c = next;
+    }
+}
+
+// Is the token at `at` an infix operator of at least `min`?
+fn infix_at(tokens: &[u32], at: usize, min: u32) -> bool
+    ensures { λ r. ⌜ r ≡ binds (infixOf (kindAt (now (tokens .entry)) at) .precedence) min ⌝ }
+{
+    operator::binds(operator::precedence_of(kind_at(tokens, at)), min)
+}
+
+// An infix operator, after its left side, with its right side.
+fn infixed(text: &[u8], tokens: &[u32], rows: &mut [u64], c: Cursor, rest: usize) -> Step
+    requires { ⌜ (c .at < count (now tokens)) × (0 < c .rows) ⌝ }
+    ensures { λ r. ⌜ Gives (infixedOf (now (text .entry)) (now (tokens .entry)) (expressionOf (now (text .entry)) (now (tokens .entry)) rest) c (now (rows .entry))) r (now (rows .exit)) ⌝ }
+{
+    let at = c.at;
+    let n = c.rows;
+    let k = kind_at(tokens, at);
+    let left = n - 1;
+    let after = at + 1;
+    let s = expression(
+        &*text,
+        &*tokens,
+        rows,
+        Cursor { at: after, rows: n },
+        rest,
+        operator::right_of(k),
+    );
+    let Step::Read(end) = s else {
+        return s;
+    };
+    let right = end.rows - 1;
+    put(
+        rows,
+        end,
+        Row {
+            kind: operator::row_of(k),
+            x: left as u64,
+            y: right as u64,
+        },
+    )
+}

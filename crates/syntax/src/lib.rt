@@ -1,0 +1,82 @@
+// Expressions: tokens are read into the rows of a syntax tree.
+//
+// `2 ^ 3 ^ 2 - 4 * 3` shows how. The whole is read at minimum 0: the atom `2`, and then infix operators, each with its right side. `^` is read
+// at its own precedence, 8, so that `3 ^ 2` is its right side; `-`, of precedence 6, is not at least 8 and ends it. Back at minimum 0 `-` is taken,
+// with a right side at 7: `4 * 3`, since `*` has 7. Each tree's row is written once its operands stand before it, so the rows come out in post-order:
+// 2, 3, 2, ^, ^, 4, 3, *, -.
+mod expression;
+pub mod kind;
+mod operator;
+mod postfix;
+mod step;
+
+use step::Cursor;
+use step::Step;
+use tokens::refusal::Refusal;
+use tokens::table;
+use tokens::table::Checked;
+ghost use mathlib.Core.Path.{_≡_};
+ghost use Rattle.tokens.specs.Token.{checkTable};
+ghost use Rattle.syntax.specs.Rules.{levelMax};
+ghost use Rattle.syntax.specs.Memory.{Gives, whole as wholeOf, checked as checkedOf, Emptied};
+ghost use Rattle.syntax.specs.Promise.{Parses};
+
+// How many levels a reading may have.
+pub const LEVELS_MAX: usize = 64;
+
+// What a parse answers: how many rows it wrote, or a refusal and its place.
+pub enum Parsed {
+    Rows(usize),
+    Refused(Refusal, usize),
+}
+
+// The whole of the tokens as one expression.
+fn whole(text: &[u8], tokens: &[u32], rows: &mut [u64], levels: usize) -> Step
+    ensures { λ r. ⌜ Gives (wholeOf (now (text .entry)) (now (tokens .entry)) levels (now (rows .entry))) r (now (rows .exit)) ⌝ }
+{
+    let start = Cursor { at: 0, rows: 0 };
+    let s = expression::expression(text, tokens, rows, start, levels, 0);
+    let Step::Read(c) = s else {
+        return s;
+    };
+    let at = c.at;
+    if at < table::count(tokens) {
+        return Step::Refused(Refusal::LeftOver, at);
+    }
+    Step::Read(c)
+}
+
+// The same, where the table of tokens is good.
+fn checked(text: &[u8], tokens: &[u32], rows: &mut [u64], levels: usize) -> Step
+    ensures { λ r. ⌜ Gives (checkedOf (checkTable (now (text .entry)) (now (tokens .entry))) (wholeOf (now (text .entry)) (now (tokens .entry)) levels (now (rows .entry)))) r (now (rows .exit)) ⌝ }
+{
+    match table::check_table(text, tokens) {
+        Checked::Good(_) => whole(text, tokens, rows, levels),
+        Checked::Refused(why, at) => Step::Refused(why, at),
+    }
+}
+
+// A parse that is refused leaves every number of the table 0.
+fn refused(rows: &mut [u64], why: Refusal, at: usize) -> Parsed
+    ensures { λ r. ⌜ Emptied why at (now (rows .entry)) r (now (rows .exit)) ⌝ }
+{
+    rows::clear(rows);
+    Parsed::Refused(why, at)
+}
+
+// Reads the tokens into the rows of a tree, with so many levels at most.
+pub fn parse_within(text: &[u8], tokens: &[u32], rows: &mut [u64], levels: usize) -> Parsed
+    ensures { λ r. ⌜ Parses levels (now (text .entry)) (now (tokens .entry)) (now (rows .entry)) r (now (rows .exit)) ⌝ }
+{
+    match checked(text, tokens, rows, levels) {
+        Step::Read(c) => Parsed::Rows(c.rows),
+        Step::Refused(why, at) => refused(rows, why, at),
+    }
+}
+
+// The same, with the levels that every expression may have.
+pub fn parse(text: &[u8], tokens: &[u32], rows: &mut [u64]) -> Parsed
+    ensures { λ r. ⌜ Parses levelMax (now (text .entry)) (now (tokens .entry)) (now (rows .entry)) r (now (rows .exit)) ⌝ }
+{
+    parse_within(text, tokens, rows, LEVELS_MAX)
+}
