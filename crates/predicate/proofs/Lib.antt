@@ -1,0 +1,8 @@
+-- Laws of predicates, for the crates above: which class a kind has, the tree at a row, rows read in order, and what accepted rows are.
+pub mod Classes
+pub mod Trees
+pub mod Stacks
+pub mod Tests
+pub mod Reading
+pub mod Accepted
+pub mod Tables

@@ -1,0 +1,49 @@
+-- `check` meets its contract: the lengths are tested in the order of `readRows`.
+-- Assumes nothing.
+use mathlib.Core.Path.{_≡_, sym, ap, _∙_}
+use native.Mathlib.Omega.{arith}
+use Rattle.tokens.specs.declared.refusal.Refusal.the-variants.{BadTree}
+use Rattle.rows.specs.Layout.{count}
+use Rattle.predicate.specs.Read.{checkedOf}
+use Rattle.predicate.specs.declared.Checked.the-variants.{Refused}
+use Rattle.predicate.proofs.Reading.{long-text, long-rows, ragged, in-turn}
+use borrow.Author.Needs.{needs}
+use Rattle.predicate.proofs.check.Statement.{statement}
+use Rattle.predicate.proofs.check.Tie as tie
+
+count-requires : tie.Need-count-requires
+count-requires c κs = search needs
+
+returns : tie.Need-returns
+unfolding checkedOf
+returns c = sym (ap (checkedOf (count (c .before .before .before .before .args .rows .now))) (long-text (c .before .before .before .before .args .text .now) (c .before .before .before .before .args .rows .now) (c .if1 .taken)))
+
+returns-2 : tie.Need-returns-2
+unfolding checkedOf
+returns-2 c = sym (ap (checkedOf (count (c .before .before .before .before .before .args .rows .now))) (long-rows (c .before .before .before .before .before .args .text .now) (c .before .before .before .before .before .args .rows .now) (c .before .if1 .left) (omega (arith, c .if2 .taken, c .before .before .count .ensures))))
+
+only-whole-requires : tie.Need-only-whole-requires
+only-whole-requires c κs = search needs
+
+check-rows-requires : tie.Need-check-rows-requires
+check-rows-requires c κs = search needs
+
+returns-3 : tie.Need-returns-3
+unfolding checkedOf
+returns-3 c = c .check-rows .ensures ∙ sym (ap (checkedOf (count (c .before .before .before .before .before .before .before .before .args .rows .now))) (in-turn (c .before .before .before .before .before .before .before .before .args .text .now) (c .before .before .before .before .before .before .before .before .args .rows .now) (c .before .before .before .before .if1 .left) (omega (arith, c .before .before .before .if2 .left, c .before .before .before .before .before .count .ensures)) (sym (c .before .before .only-whole .ensures) ∙ c .before .if3 .taken)))
+
+returns-4 : tie.Need-returns-4
+unfolding checkedOf
+returns-4 c = ap (Refused BadTree) (c .before .before .before .before .count .ensures) ∙ sym (ap (checkedOf (count (c .before .before .before .before .before .before .before .args .rows .now))) (ragged (c .before .before .before .before .before .before .before .args .text .now) (c .before .before .before .before .before .before .before .args .rows .now) (c .before .before .before .if1 .left) (omega (arith, c .before .before .if2 .left, c .before .before .before .before .count .ensures)) (sym (c .before .only-whole .ensures) ∙ c .if3 .left)))
+
+pub check-spec : {M : Type 1} → statement M
+check-spec =
+    tie.close
+    (tie.spec
+    count-requires
+    returns
+    returns-2
+    only-whole-requires
+    check-rows-requires
+    returns-3
+    returns-4)

@@ -1,0 +1,43 @@
+-- `good_at` meets its contract: what it reads of the row is what `goodAt` reads.
+-- Assumes nothing.
+use Rattle.predicate.proofs.Tests.{good-on, good-off}
+use borrow.Author.Needs.{needs}
+use Rattle.predicate.proofs.good_at.Statement.{statement}
+use Rattle.predicate.proofs.good_at.Tie as tie
+
+row-at-requires : tie.Need-row-at-requires
+row-at-requires c κs = search needs
+
+class-of-requires : tie.Need-class-of-requires
+class-of-requires c κs = search needs
+
+allowed-requires : tie.Need-allowed-requires
+allowed-requires c κs = search needs
+
+shape-of-requires : tie.Need-shape-of-requires
+shape-of-requires c κs = search needs
+
+operands-requires : tie.Need-operands-requires
+operands-requires c κs = search needs
+
+stands-requires : tie.Need-stands-requires
+stands-requires c κs = search needs
+
+returns : tie.Need-returns
+returns c = good-on _ _ _ (c .before .before .before .before .before .before .row-at .ensures) (c .before .before .before .before .before .class-of .ensures) (c .before .before .before .before .allowed .ensures) (c .before .before .before .if1 .taken) (c .before .before .shape-of .ensures) (c .before .operands .ensures) (c .stands .ensures)
+
+returns-2 : tie.Need-returns-2
+returns-2 c = good-off _ _ _ (c .before .before .before .row-at .ensures) (c .before .before .class-of .ensures) (c .before .allowed .ensures) (c .if1 .left)
+
+pub good-at-spec : {M : Type 1} → statement M
+good-at-spec =
+    tie.close
+    (tie.spec
+    row-at-requires
+    class-of-requires
+    allowed-requires
+    shape-of-requires
+    operands-requires
+    stands-requires
+    returns
+    returns-2)

@@ -1,0 +1,24 @@
+-- What the parts of the row check's code promise each other. No public promise names this file.
+use Prim.Native.Nat.{ℕ, _+_, _<_}
+use mathlib.Core.Bool.{Bool, true, false, _&&_}
+use mathlib.Core.List.{List}
+use lib.Dec.{eqb}
+use Rattle.rows.specs.Layout.{count, rowAt}
+use Rattle.predicate.specs.Row.{classOf, allowedOf, shapeAt, arityOf}
+use Rattle.predicate.specs.Tree.{firstAt, Falls}
+use Rattle.predicate.specs.declared.Arity.{Arity}
+use Rattle.predicate.specs.declared.Arity.the-variants as arity
+
+-- row r is there, and the operands of each row before it stand before that
+pub record Below (l : List ℕ) (r : ℕ) : Type 0 where
+  pub there : r < count l
+  pub falls : (q : ℕ) → q < r → Falls (arityOf (shapeAt l q)) q
+
+-- the operands' whole subtrees stand directly before row r
+unfoldable pub standsAt : List ℕ → ℕ → Arity → Bool
+standsAt l r arity.Nil = true
+standsAt l r (arity.One x) = eqb (x + 1) r
+standsAt l r (arity.Two x y) = eqb (y + 1) r && eqb (x + 1) (firstAt l y)
+
+unfoldable pub goodAt : List ℕ → List ℕ → ℕ → Bool
+goodAt text l r = allowedOf text (classOf (rowAt l r .kind)) (rowAt l r .x) (rowAt l r .y) && standsAt l r (arityOf (shapeAt l r))
