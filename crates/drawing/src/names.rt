@@ -1,0 +1,67 @@
+// The names of the format.
+use crate::out::decimal;
+use crate::out::put;
+use crate::out::put_part;
+use tokens::refusal;
+use tokens::refusal::Refusal;
+
+pub fn syntax_name(kind: u64) {
+    put_part(
+        b"? All Integer Float Infinity NaN String Boolean Null Column Column Function Identity Negate Not Factorial Is And Or Equal NotEqual GreaterThan GreaterThanOrEqual LessThan LessThanOrEqual Like Add Subtract Multiply Divide Remainder Exponentiate",
+        b' ',
+        kind as usize,
+    );
+}
+
+pub fn predicate_name(kind: u64) {
+    put_part(
+        b"? Null Boolean Integer Float String Column And Or Not Equal GreaterThan LessThan Is Add Divide Exponentiate Factorial Identity Multiply Negate Remainder SquareRoot Subtract Like",
+        b' ',
+        kind as usize,
+    );
+}
+
+// What a refusal means.
+fn reason(number: usize) {
+    put_part(
+        b"?|more text, tokens or rows than are taken|a token of unknown kind or outside the text|something is missing after the last token|no operand starts with this token|another token is needed here|the expression has ended before this token|not a number, or one above 9223372036854775807|more than 64 levels|more than 2048 rows|not the rows of one tree|more than 1024 clauses or 8192 literals|a list is too short|not a lookup|no such clause or value",
+        b'|',
+        number,
+    );
+}
+
+fn refusal_name(n: u32) {
+    put_part(
+        b"? TOO_LONG BAD_TABLE END NO_ATOM WRONG_TOKEN LEFT_OVER BAD_NUMBER TOO_DEEP NO_ROOM BAD_TREE TOO_MANY NO_LIST NOT_LOOKUP NO_SUCH",
+        b' ',
+        n as usize,
+    );
+}
+
+fn name_and_number(n: u32) {
+    put(b"  ");
+    refusal_name(n);
+    put(b" (");
+    decimal(n as u64);
+}
+
+fn at_place(what: &[u8], place: usize) {
+    put(b") at ");
+    put(what);
+    put(b" ");
+    decimal(place as u64);
+}
+
+fn meaning(n: u32) {
+    put(b": ");
+    reason(n as usize);
+    put(b"\n");
+}
+
+// A refusal: its name, its number, its place and what it means.
+pub fn refused(why: Refusal, what: &[u8], place: usize) {
+    let n = refusal::number_of(why);
+    name_and_number(n);
+    at_place(what, place);
+    meaning(n);
+}

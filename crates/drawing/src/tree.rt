@@ -1,0 +1,235 @@
+// Trees drawn from their rows, root first, the operands of a row below it and further in.
+//
+// Rows stand in post-order, so a row's operands are the whole subtrees before it. Where each subtree starts is found first, in one pass; then rows are
+// drawn from a stack, on which a drawn row puts its operands, the leftmost on top.
+use crate::labels::predicate_row;
+use crate::labels::syntax_row;
+use crate::out::indent;
+use crate::out::place;
+use crate::out::put;
+use form::scan::one_more;
+use rows::Row;
+use syntax::kind;
+ghost use mathlib.Core.Path.{_≡_};
+ghost use lib.ListN.{length};
+
+pub enum Family {
+    Syntax,
+    Predicate,
+}
+
+// Row n, and one of no kind where there is none.
+fn row_or_none(rows: &[u64], n: usize) -> Row {
+    if n < rows::count(rows) {
+        rows::row_at(rows, n)
+    } else {
+        Row {
+            kind: 0,
+            x: 0,
+            y: 0,
+        }
+    }
+}
+
+// How many operands a row has.
+fn syntax_operands(k: u64, y: u64) -> usize {
+    if k < kind::FUNCTION {
+        0
+    } else if k == kind::FUNCTION {
+        y as usize
+    } else if k < kind::AND {
+        1
+    } else {
+        2
+    }
+}
+
+fn predicate_operands(k: u64) -> usize {
+    match k {
+        1 | 2 | 3 | 4 | 5 | 6 => 0,
+        9 | 13 | 17 | 18 | 20 | 22 => 1,
+        _ => 2,
+    }
+}
+
+fn operands(family: Family, row: Row) -> usize {
+    match family {
+        Family::Syntax => syntax_operands(row.kind, row.y),
+        Family::Predicate => predicate_operands(row.kind),
+    }
+}
+
+fn entry(a: &[usize], i: usize) -> usize {
+    if i < a.len() { a[i] } else { 0 }
+}
+
+fn keep(a: &mut [usize], i: usize, x: usize)
+    ensures { λ _. ⌜ length (now (a .exit)) ≡ length (now (a .entry)) ⌝ }
+{
+    if i < a.len() {
+        a[i] = x;
+    }
+}
+
+// The first row of the subtree of row n, which has so many operands.
+fn first_row(starts: &[usize], n: usize, operands: usize) -> usize {
+    let mut at = n;
+    let mut i = 0;
+    while i < operands {
+        if at == 0 {
+            return 0;
+        }
+        at = entry(starts, at - 1);
+        i += 1;
+    }
+    at
+}
+
+// The first row of each subtree.
+fn find_starts(family: Family, rows: &[u64], starts: &mut [usize]) {
+    let count = rows::count(rows);
+    let mut n = 0;
+    while n < count {
+        let many = operands(family, row_or_none(rows, n));
+        let first = first_row(starts, n, many);
+        keep(starts, n, first);
+        n += 1;
+    }
+}
+
+// Puts a row on the stack, with its depth.
+fn push(depths: &mut [usize], stack: &mut [usize], top: usize, row: usize, depth: usize) -> usize {
+    keep(depths, row, depth);
+    keep(stack, top, row);
+    one_more(top)
+}
+
+// Puts the operands of row n on the stack, the rightmost first, one step further in; answers the stack's new height.
+fn push_operands(
+    starts: &[usize],
+    depths: &mut [usize],
+    stack: &mut [usize],
+    height: usize,
+    n: usize,
+    operands: usize,
+) -> usize {
+    let depth = one_more(entry(depths, n));
+    let mut top = height;
+    let mut at = n;
+    let mut i = 0;
+    while i < operands {
+        if at == 0 {
+            return top;
+        }
+        let root = at - 1;
+        top = push(depths, stack, top, root, depth);
+        at = entry(starts, root);
+        i += 1;
+    }
+    top
+}
+
+// What stands before a row's name.
+fn margin(n: usize, depth: usize) {
+    put(b"  ");
+    place(n);
+    put(b"  ");
+    indent(depth);
+}
+
+fn label(family: Family, text: &[u8], tokens: &[u32], row: Row) {
+    match family {
+        Family::Syntax => syntax_row(text, tokens, row),
+        Family::Predicate => predicate_row(text, row),
+    }
+}
+
+// A row on its line.
+fn draw_row(family: Family, text: &[u8], tokens: &[u32], row: Row, n: usize, depth: usize) {
+    margin(n, depth);
+    label(family, text, tokens, row);
+    put(b"\n");
+}
+
+// Draws the row on top of the stack and puts its operands there; answers the stack's new height.
+fn draw_top(
+    family: Family,
+    text: &[u8],
+    tokens: &[u32],
+    rows: &[u64],
+    starts: &[usize],
+    depths: &mut [usize],
+    stack: &mut [usize],
+    top: usize,
+) -> usize {
+    let n = entry(stack, top);
+    let row = row_or_none(rows, n);
+    let depth = entry(depths, n);
+    draw_row(family, text, tokens, row, n, depth);
+    push_operands(starts, depths, stack, top, n, operands(family, row))
+}
+
+// The row on the stack and all below it, each once.
+fn draw_rows(
+    family: Family,
+    text: &[u8],
+    tokens: &[u32],
+    rows: &[u64],
+    starts: &[usize],
+    depths: &mut [usize],
+    stack: &mut [usize],
+) {
+    let count = rows::count(rows);
+    let mut height = 1;
+    let mut i = 0;
+    while i < count {
+        if height == 0 {
+            return;
+        }
+        height = draw_top(
+            family,
+            text,
+            tokens,
+            rows,
+            starts,
+            depths,
+            stack,
+            height - 1,
+        );
+        i += 1;
+    }
+}
+
+fn draw_with(
+    family: Family,
+    text: &[u8],
+    tokens: &[u32],
+    rows: &[u64],
+    starts: &mut [usize],
+    depths: &mut [usize],
+    stack: &mut [usize],
+) {
+    let count = rows::count(rows);
+    if count == 0 {
+        return;
+    }
+    find_starts(family, rows, starts);
+    keep(stack, 0, count - 1);
+    draw_rows(family, text, tokens, rows, starts, depths, stack);
+}
+
+// The tree of these rows, which are good ones.
+pub fn draw(family: Family, text: &[u8], tokens: &[u32], rows: &[u64]) {
+    let mut starts = [0usize; 2048];
+    let mut depths = [0usize; 2048];
+    let mut stack = [0usize; 2048];
+    draw_with(
+        family,
+        text,
+        tokens,
+        rows,
+        &mut starts,
+        &mut depths,
+        &mut stack,
+    );
+}

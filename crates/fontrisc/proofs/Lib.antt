@@ -1,0 +1,2 @@
+-- What the faces hand out.
+pub mod Handing

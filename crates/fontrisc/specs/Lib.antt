@@ -1,0 +1,2 @@
+-- What the C functions hand out.
+pub mod Face

@@ -1,0 +1,79 @@
+// Reading lines from a file or from a terminal, however many there are.
+use crate::scan::byte;
+use crate::scan::one_more;
+ghost use mathlib.Core.Path.{_≡_};
+ghost use lib.ListN.{length};
+
+// Which bytes of the chunk are still unread.
+pub struct Unread {
+    pub at: usize,
+    pub end: usize,
+}
+
+pub enum Next {
+    Byte(u8, Unread),
+    End,
+}
+
+// A line that was read: how long it is, what is unread after it, and whether the input ended there.
+pub struct Line {
+    pub length: usize,
+    pub unread: Unread,
+    pub ended: bool,
+}
+
+// The next byte, from the chunk or from what is read into it next.
+fn next_byte(fd: i32, chunk: &mut [u8], unread: Unread) -> Next {
+    let at = unread.at;
+    let end = unread.end;
+    if at < end {
+        return Next::Byte(byte(chunk, at), Unread { at: at + 1, end });
+    }
+    let got = libc::read(fd, chunk);
+    let n = io::count(got, chunk);
+    if n == 0 {
+        return Next::End;
+    }
+    Next::Byte(byte(chunk, 0), Unread { at: 1, end: n })
+}
+
+// Writes a byte where there is a place for it.
+fn keep(line: &mut [u8], i: usize, b: u8)
+    ensures { λ _. ⌜ length (now (line .exit)) ≡ length (now (line .entry)) ⌝ }
+{
+    if i < line.len() {
+        line[i] = b;
+    }
+}
+
+// The next line, as much of it as there are places for.
+pub fn read_line(fd: i32, chunk: &mut [u8], line: &mut [u8], unread: Unread) -> Line {
+    let mut rest = unread;
+    let mut n = 0;
+    let mut left: u64 = 18446744073709551615;
+    while 0 < left {
+        let Next::Byte(b, after) = next_byte(fd, chunk, rest) else {
+            return Line {
+                length: n,
+                unread: rest,
+                ended: true,
+            };
+        };
+        rest = after;
+        if b == b'\n' {
+            return Line {
+                length: n,
+                unread: rest,
+                ended: false,
+            };
+        }
+        keep(line, n, b);
+        n = one_more(n);
+        left -= 1;
+    }
+    Line {
+        length: n,
+        unread: rest,
+        ended: true,
+    }
+}

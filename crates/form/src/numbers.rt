@@ -1,0 +1,154 @@
+// The numbers of a line: decimal, with `-` before a number that stands for its two's complement, or hexadecimal after `0x`.
+use crate::scan::byte;
+use crate::scan::one_more;
+use crate::scan::word_end;
+use crate::scan::word_start;
+ghost use mathlib.Core.Path.{_≡_};
+ghost use Prim.Native.Nat.{_≤_};
+ghost use lib.ListN.{length};
+
+pub enum Number {
+    Is(u64),
+    Bad,
+}
+
+// How many numbers a line has, or where the word is that is none.
+pub enum Taken {
+    All(usize),
+    Bad(usize, usize),
+}
+
+// What a byte counts as a digit; 16 for one that is none.
+fn digit(b: u8) -> u64 {
+    if b < b'0' {
+        16
+    } else if b <= b'9' {
+        (b - b'0') as u64
+    } else if b < b'a' {
+        16
+    } else if b <= b'f' {
+        (b - 87) as u64
+    } else {
+        16
+    }
+}
+
+// A number after one more decimal digit.
+fn tens(value: u64, d: u64) -> Number {
+    if 9 < d {
+        return Number::Bad;
+    }
+    if value < 1844674407370955161 {
+        return Number::Is(value * 10 + d);
+    }
+    if value == 1844674407370955161 {
+        if d <= 5 {
+            Number::Is(18446744073709551610 + d)
+        } else {
+            Number::Bad
+        }
+    } else {
+        Number::Bad
+    }
+}
+
+// A number after one more hexadecimal digit.
+fn sixteens(value: u64, d: u64) -> Number {
+    if 15 < d {
+        return Number::Bad;
+    }
+    if value < 1152921504606846976 {
+        return Number::Is(value * 16 + d);
+    }
+    Number::Bad
+}
+
+fn grown(value: u64, b: u8, hex: bool) -> Number {
+    let d = digit(b);
+    if hex {
+        sixteens(value, d)
+    } else {
+        tens(value, d)
+    }
+}
+
+// The digits from `from` on, at least one.
+fn digits(word: &[u8], from: usize, hex: bool) -> Number {
+    if word.len() <= from {
+        return Number::Bad;
+    }
+    let mut value: u64 = 0;
+    let mut i = from;
+    while i < word.len() {
+        let Number::Is(v) = grown(value, byte(word, i), hex) else {
+            return Number::Bad;
+        };
+        value = v;
+        i += 1;
+    }
+    Number::Is(value)
+}
+
+// The pattern of a number below 0, down to -2^63.
+fn negated(n: Number) -> Number {
+    let Number::Is(v) = n else {
+        return Number::Bad;
+    };
+    if v <= 9223372036854775808 {
+        Number::Is(std::num::wrapping_sub_u64(0, v))
+    } else {
+        Number::Bad
+    }
+}
+
+fn number_of(word: &[u8]) -> Number {
+    if byte(word, 0) == b'-' {
+        return negated(digits(word, 1, false));
+    }
+    if byte(word, 0) == b'0' {
+        if byte(word, 1) == b'x' {
+            return digits(word, 2, true);
+        }
+    }
+    digits(word, 0, false)
+}
+
+// Writes a number where there is a place for it.
+fn keep(out: &mut [u64], n: usize, value: u64)
+    ensures { λ _. ⌜ length (now (out .exit)) ≡ length (now (out .entry)) ⌝ }
+{
+    if n < out.len() {
+        out[n] = value;
+    }
+}
+
+// The numbers after one more word.
+fn take_word(line: &[u8], start: usize, end: usize, out: &mut [u64], n: usize) -> Taken
+    requires { ⌜ (start ≤ end) × (end ≤ length (now line)) ⌝ }
+    ensures { λ _. ⌜ length (now (out .exit)) ≡ length (now (out .entry)) ⌝ }
+{
+    if start == end {
+        return Taken::All(n);
+    }
+    let Number::Is(value) = number_of(&line[start..end]) else {
+        return Taken::Bad(start, end);
+    };
+    keep(out, n, value);
+    Taken::All(one_more(n))
+}
+
+// The numbers of a line from `from` on, as many as there are places for, and how many there are.
+pub fn numbers_of(line: &[u8], from: usize, out: &mut [u64]) -> Taken {
+    let mut at = from;
+    let mut n = 0;
+    while at < line.len() {
+        let start = word_start(line, at);
+        let end = word_end(line, start);
+        let Taken::All(so) = take_word(line, start, end, out, n) else {
+            return Taken::Bad(start, end);
+        };
+        n = so;
+        at = end + 1;
+    }
+    Taken::All(n)
+}

@@ -1,0 +1,78 @@
+// A line's words as tokens. This is no lexer: a word is one token, and what separates words is a blank.
+use crate::kinds::kind_of;
+use crate::scan::word_end;
+use crate::scan::word_start;
+use tokens::kind;
+use tokens::table::Token;
+ghost use mathlib.Core.Path.{_≡_};
+ghost use Prim.Native.Nat.{_≤_};
+ghost use lib.ListN.{length};
+
+fn narrow(x: usize) -> u32 {
+    (x % 4294967296) as u32
+}
+
+// Writes a token where there is room for it; answers how many numbers the table then has.
+fn put_token(table: &mut [u32], n: usize, t: Token) -> usize
+    ensures { λ _. ⌜ length (now (table .exit)) ≡ length (now (table .entry)) ⌝ }
+{
+    if table.len() < n {
+        return n;
+    }
+    if table.len() - n < 3 {
+        return n;
+    }
+    table[n] = t.kind;
+    table[n + 1] = t.start;
+    table[n + 2] = t.length;
+    n + 3
+}
+
+// The token of a word. The quotes of a String stand outside its span.
+fn token_of(line: &[u8], start: usize, end: usize) -> Token
+    requires { ⌜ (start ≤ end) × (end ≤ length (now line)) ⌝ }
+{
+    let word = &line[start..end];
+    let kind = kind_of(word);
+    let length = word.len();
+    if kind == kind::STRING {
+        if 2 <= length {
+            let from = start + 1;
+            return Token {
+                kind,
+                start: narrow(from),
+                length: narrow(length - 2),
+            };
+        }
+    }
+    Token {
+        kind,
+        start: narrow(start),
+        length: narrow(length),
+    }
+}
+
+// The table after one more word.
+fn take_word(line: &[u8], start: usize, end: usize, table: &mut [u32], n: usize) -> usize
+    requires { ⌜ (start ≤ end) × (end ≤ length (now line)) ⌝ }
+    ensures { λ _. ⌜ length (now (table .exit)) ≡ length (now (table .entry)) ⌝ }
+{
+    if start == end {
+        return n;
+    }
+    let t = token_of(line, start, end);
+    put_token(table, n, t)
+}
+
+// The tokens of a line from `from` on, as many as there is room for; answers how many numbers they take.
+pub fn tokens_of(line: &[u8], from: usize, table: &mut [u32]) -> usize {
+    let mut at = from;
+    let mut n = 0;
+    while at < line.len() {
+        let start = word_start(line, at);
+        let end = word_end(line, start);
+        n = take_word(line, start, end, table, n);
+        at = end + 1;
+    }
+    n
+}

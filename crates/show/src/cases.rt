@@ -1,0 +1,189 @@
+// A case: an expression that is parsed, or a predicate that is split.
+use drawing::listing::list;
+use drawing::names::refused;
+use drawing::out::blanks;
+use drawing::out::counted;
+use drawing::out::decimal;
+use drawing::out::put;
+use drawing::out::quoted;
+use drawing::tree::Family;
+use drawing::tree::draw;
+use form::numbers::Taken;
+use form::numbers::numbers_of;
+use form::scan::find;
+use form::scan::last;
+use form::scan::until;
+use form::scan::word_end;
+use form::scan::word_start;
+use form::words::tokens_of;
+use predicate::Checked;
+use syntax::Parsed;
+use tokens::refusal::Refusal;
+use tokens::table::count;
+use tokens::table::span_at;
+ghost use Prim.Native.Nat.{_≤_};
+ghost use lib.ListN.{length};
+
+// Each one more than the library takes, so that it is the library that refuses what is too long.
+const TOKENS: usize = 4097;
+
+const ROWS: usize = 2049;
+
+// What stands before the caret: as much as before the token of the place, or the whole line and a space where there is no such token.
+fn before_caret(line: &[u8], tokens: &[u32], place: usize) {
+    if count(tokens) <= place {
+        blanks(line);
+        put(b" ");
+        return;
+    }
+    let span = span_at(line, tokens, place);
+    let start = span.start;
+    if start <= line.len() {
+        blanks(&line[0..start]);
+    }
+}
+
+fn caret(line: &[u8], tokens: &[u32], place: usize) {
+    before_caret(line, tokens, place);
+    put(b"^\n");
+}
+
+// A parse that was refused. What is too long has no token to point at.
+fn refused_parse(line: &[u8], tokens: &[u32], why: Refusal, place: usize) {
+    match why {
+        Refusal::TooLong => {}
+        _ => caret(line, tokens, place),
+    }
+    refused(why, b"token", place);
+}
+
+fn put_count(n: usize) {
+    put(b"  ");
+    counted(n, b"row");
+    put(b"\n");
+}
+
+fn drawn(family: Family, text: &[u8], tokens: &[u32], rows: &[u64], n: usize) {
+    put_count(n);
+    if n <= rows.len() / 3 {
+        let end = n * 3;
+        draw(family, text, tokens, &rows[0..end]);
+    }
+}
+
+fn parse_tokens(line: &[u8], tokens: &[u32], rows: &mut [u64]) {
+    match syntax::parse(line, tokens, rows) {
+        Parsed::Rows(n) => drawn(Family::Syntax, line, tokens, rows, n),
+        Parsed::Refused(why, place) => refused_parse(line, tokens, why, place),
+    }
+}
+
+fn parse_with(line: &[u8], from: usize, table: &mut [u32], rows: &mut [u64]) {
+    let n = tokens_of(line, from, table);
+    if n <= table.len() {
+        parse_tokens(line, &table[0..n], rows);
+    }
+}
+
+// The words from `from` on as an expression.
+fn parse_case(line: &[u8], from: usize) {
+    let mut table = [0u32; TOKENS * 3];
+    let mut rows = [0u64; 6144];
+    parse_with(line, from, &mut table, &mut rows);
+}
+
+// What a line has wrong.
+pub fn wrong(number: u64, what: &[u8]) {
+    put(b"  line ");
+    decimal(number);
+    put(b": ");
+    put(what);
+}
+
+fn predicate(text: &[u8], rows: &[u64]) {
+    let none = [0u32; 0];
+    match predicate::check(text, rows) {
+        Checked::Good(n) => {
+            drawn(Family::Predicate, text, &none, rows, n);
+            list(text, rows);
+        }
+        Checked::Refused(why, place) => refused(why, b"row", place),
+    }
+}
+
+fn least(n: usize, most: usize) -> usize
+    ensures { λ r. ⌜ r ≤ most ⌝ }
+{
+    if n <= most { n } else { most }
+}
+
+fn no_number(line: &[u8], start: usize, end: usize, number: u64) {
+    wrong(number, b"not a number: ");
+    if start <= end {
+        quoted(line, start, end - start);
+    }
+    put(b"\n");
+}
+
+fn rows_with(text: &[u8], line: &[u8], from: usize, number: u64, rows: &mut [u64]) {
+    match numbers_of(line, from, rows) {
+        Taken::All(n) => {
+            let end = least(n, rows.len());
+            predicate(text, &rows[0..end]);
+        }
+        Taken::Bad(start, end) => no_number(line, start, end, number),
+    }
+}
+
+// The numbers from `from` on as a predicate.
+fn rows_case(text: &[u8], line: &[u8], from: usize, number: u64) {
+    let mut rows = [0u64; ROWS * 3];
+    rows_with(text, line, from, number, &mut rows);
+}
+
+// Which case a word opens.
+fn opened(word: &[u8]) -> usize {
+    find(b"parse rows text", word)
+}
+
+// The same, after the word `rows`.
+fn rows_after(text: &[u8], line: &[u8], from: usize, number: u64)
+    requires { ⌜ from ≤ length (now line) ⌝ }
+{
+    let start = word_start(line, from);
+    let end = word_end(line, start);
+    if opened(&line[start..end]) == 2 {
+        rows_case(text, line, end, number);
+    } else {
+        wrong(number, b"after the text comes: rows\n");
+    }
+}
+
+// A text between the first and the last quote, and then rows.
+fn text_case(line: &[u8], from: usize, number: u64)
+    requires { ⌜ from ≤ length (now line) ⌝ }
+{
+    let open = until(line, from, b'\'');
+    let close = last(line, b'\'');
+    if open < close {
+        if close < line.len() {
+            let start = open + 1;
+            let after = close + 1;
+            rows_after(&line[start..close], line, after, number);
+            return;
+        }
+    }
+    wrong(number, b"after text comes a text in single quotes\n");
+}
+
+// One line, by its first word.
+pub fn case(line: &[u8], number: u64) {
+    let start = word_start(line, 0);
+    let end = word_end(line, start);
+    match opened(&line[start..end]) {
+        1 => parse_case(line, end),
+        2 => rows_case(b"", line, end, number),
+        3 => text_case(line, end, number),
+        _ => wrong(number, b"a case starts with parse, rows or text\n"),
+    }
+}

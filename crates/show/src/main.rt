@@ -1,0 +1,83 @@
+// Shows what the library says of each case in a file, or in standard input: a tree, clauses and lookups, or a refusal.
+// README.md describes the form of a case.
+use cases::case;
+use cases::wrong;
+use drawing::out::put;
+use form::input::Unread;
+use form::input::read_line;
+use form::scan::byte;
+use form::scan::word_start;
+
+mod cases;
+
+// A line: copied, and followed by what there is to say of it if it is a case.
+fn show_line(line: &[u8], number: u64) {
+    if word_start(line, 0) == line.len() {
+        return;
+    }
+    put(line);
+    put(b"\n");
+    if byte(line, 0) != b'#' {
+        case(line, number);
+        put(b"\n");
+    }
+}
+
+// A line of so many bytes, of which `line` has those that there are places for.
+fn show_read(line: &[u8], length: usize, number: u64) {
+    if length <= line.len() {
+        show_line(&line[0..length], number);
+    } else {
+        wrong(number, b"longer than 65536 bytes, and left out\n\n");
+    }
+}
+
+// Every line.
+fn show_all(fd: i32, chunk: &mut [u8], line: &mut [u8]) {
+    let mut unread = Unread { at: 0, end: 0 };
+    let mut number: u64 = 0;
+    while number < 18446744073709551615 {
+        number += 1;
+        let read = read_line(fd, chunk, line, unread);
+        show_read(line, read.length, number);
+        if read.ended {
+            return;
+        }
+        unread = read.unread;
+    }
+}
+
+fn show(fd: i32) {
+    let mut chunk = io::buffer();
+    let mut line = io::large_buffer();
+    show_all(fd, &mut chunk, &mut line);
+}
+
+fn show_file(path: &[u8]) {
+    let fd = os::open_read(path);
+    if fd < 0 {
+        os::fail(path);
+        return;
+    }
+    show(fd);
+    libc::close(fd);
+}
+
+// The file that the first argument names.
+fn show_named() {
+    let mut path = io::buffer();
+    let n = os::arg(1, &mut path);
+    if os::errno() != 0 {
+        os::fail(b"the name of the file");
+        return;
+    }
+    show_file(&path[..n]);
+}
+
+fn main() {
+    if os::arg_count() < 2 {
+        show(libc::STDIN_FILENO);
+    } else {
+        show_named();
+    }
+}

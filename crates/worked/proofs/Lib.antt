@@ -1,0 +1,2 @@
+-- The worked examples, proved.
+pub mod Examples

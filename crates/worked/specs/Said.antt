@@ -1,0 +1,50 @@
+-- What the definitions say of an input, as numbers: 0 and the answer's numbers, or a refusal's number and its place.
+use Prim.Native.Nat.{ℕ, _+_}
+use mathlib.Core.List.{List, [], _∷_, _++_, map}
+use mathlib.Core.Bool.{false}
+use lib.ListN.{length}
+use Rattle.tokens.specs.Limits.{rowsMax}
+use Rattle.tokens.specs.Refusal.{numberOf}
+use Rattle.rows.specs.declared.Row.{Row}
+use Rattle.rows.specs.Layout.{numbers}
+use Rattle.syntax.specs.Tree.{rowsOf}
+use Rattle.syntax.specs.Rules as rules
+use Rattle.syntax.specs.Promise.{parsing}
+use Rattle.predicate.specs.Read.{Reading, one, refused, readRows}
+use Rattle.clauses.specs.Clause as clause
+use Rattle.lookup.specs.Value.{rowOf}
+use Rattle.lookup.specs.Answer.{Asked, holds, refuse, asked}
+use Rattle.lookup.specs.declared.value.Value.{Value}
+
+-- tokens of one byte each, from place i of a text on
+unfoldable pub tokens : ℕ → List ℕ → List ℕ
+tokens i [] = []
+tokens i (k ∷ ks) = k ∷ i ∷ 1 ∷ tokens (i + 1) ks
+
+-- a parse into a table of as many rows as there may be
+unfoldable pub parsed : List ℕ → List ℕ → List ℕ
+parsed text kinds = said (parsing text (tokens 0 kinds) rowsMax rules.levelMax)
+  where
+    said : rules.Reading → List ℕ
+    said (rules.done at used x) = 0 ∷ rowsOf 0 x
+    said (rules.refuse why at) = numberOf why ∷ at ∷ []
+
+-- the clause list of a predicate: the literals, and after them the ends
+unfoldable pub split : List ℕ → List ℕ
+split rows = said (readRows [] rows)
+  where
+    said : Reading → List ℕ
+    said (one t) = 0 ∷ clause.numbers (clause.clauses false t) ++ clause.endsFrom 0 (clause.clauses false t)
+    said (refused why place) = numberOf why ∷ place ∷ []
+
+-- a lookup's column and its values, each as a constant's row
+unfoldable pub values : List Value → List ℕ
+values [] = []
+values (v ∷ vs) = numbers (rowOf v) ++ values vs
+
+unfoldable pub lookedUp : List ℕ → ℕ → List ℕ
+lookedUp rows k = said (asked (readRows [] rows) k)
+  where
+    said : Asked → List ℕ
+    said (holds c vs) = 0 ∷ c ∷ values vs
+    said (refuse why place) = numberOf why ∷ place ∷ []

@@ -1,0 +1,168 @@
+//! The times of `split` beside those of the original's `into_cnf_vec`.
+
+use crate::clock::{best, head, nanoseconds, ratio, row, shown};
+use crate::shapes::{AND, NOT, OR, Rows, rows};
+use oracle::expression::tree_of;
+use std::hint::black_box;
+
+/// What was measured and how, before the table.
+const NOTES: &str = "\
+## split
+
+Times are for one call, the best of many batches. The library writes into lists
+of 8,192 and 1,024 numbers that are lent again and again and not cleared in
+between. The original rewrites trees that were copied beforehand, and its clauses
+are freed: that is part of its time. `Bare` is without: the clauses are kept.
+Where its clauses are not split to the end (docs/DIFFERENCES.md, classes 6 and
+7), it does less than the library: in the NOT chains.
+";
+
+/// The predicates: what each is called, and its rows.
+fn predicates() -> Vec<(String, Vec<u64>)> {
+    let mut all = vec![
+        (
+            "c = 7".to_string(),
+            rows(|made| {
+                made.equal(0, 7);
+            }),
+        ),
+        (
+            "c = 7 AND d = 8".to_string(),
+            rows(|made| {
+                conjunction(made, 2);
+            }),
+        ),
+        ("c = 7 AND (d = 8 OR NOT e = 9)".to_string(), rows(filter)),
+        ("(a AND b) OR NOT (c OR d)".to_string(), rows(small_product)),
+    ];
+    for atoms in [255, 511, 1_023] {
+        let mut add = |name: &str, make: &dyn Fn(&mut Rows)| {
+            all.push((format!("{name}, {atoms} atoms"), rows(make)));
+        };
+        add("AND chain", &|made| {
+            made.left_chain(AND, atoms);
+        });
+        add("OR chain", &|made| {
+            made.left_chain(OR, atoms);
+        });
+        add("NOT of an AND chain", &|made| {
+            made.left_chain(AND, atoms);
+            made.over(NOT);
+        });
+        add("(AND chain) OR x", &|made| {
+            let chain = made.left_chain(AND, atoms - 1);
+            let x = made.column(9);
+            made.join(OR, chain, x);
+        });
+        add("x OR (AND chain)", &|made| {
+            let x = made.column(9);
+            let chain = made.right_chain(AND, atoms - 1);
+            made.join(OR, x, chain);
+        });
+    }
+    for nots in [255, 511, 1_023, 2_047] {
+        let name = format!("NOT chain, {nots} NOTs");
+        let chain = |made: &mut Rows| {
+            made.column(0);
+            for _ in 0..nots {
+                made.over(NOT);
+            }
+        };
+        all.push((name, rows(chain)));
+    }
+    all.push((
+        "OR of two ANDs of 32: 1,024 clauses of 2".to_string(),
+        rows(|m| product(m, &[32; 2])),
+    ));
+    let eight = [2, 2, 2, 2, 2, 2, 4, 4];
+    all.push(("OR of eight ANDs: 1,024 clauses of 8".to_string(), rows(|m| product(m, &eight))));
+    all
+}
+
+/// An AND of comparisons.
+fn conjunction(made: &mut Rows, tests: u64) {
+    let first = made.equal(0, 7);
+    (1..tests).fold(first, |tree, n| {
+        let test = made.equal(n, 7 + n);
+        made.join(AND, tree, test)
+    });
+}
+
+/// Twelve rows.
+fn filter(made: &mut Rows) {
+    let first = made.equal(0, 7);
+    let second = made.equal(1, 8);
+    made.equal(2, 9);
+    let third = made.over(NOT);
+    let either = made.join(OR, second, third);
+    made.join(AND, first, either);
+}
+
+/// Eight rows that come to four clauses.
+fn small_product(made: &mut Rows) {
+    let (a, b) = (made.column(0), made.column(1));
+    let both = made.join(AND, a, b);
+    let (c, d) = (made.column(2), made.column(3));
+    made.join(OR, c, d);
+    let neither = made.over(NOT);
+    made.join(OR, both, neither);
+}
+
+/// An OR, leaning to the right, of ANDs of so many columns.
+fn product(made: &mut Rows, sizes: &[u64]) {
+    let parts: Vec<u64> = sizes.iter().map(|size| made.left_chain(AND, *size)).collect();
+    let mut parts = parts.into_iter().rev();
+    let last = parts.next().expect("there are parts");
+    parts.fold(last, |tree, left| made.join(OR, left, tree));
+}
+
+/// Prints the table.
+pub fn table() {
+    println!("{NOTES}");
+    head(&[
+        "predicate",
+        "rows",
+        "clauses",
+        "literals",
+        "library",
+        "per row",
+        "original",
+        "ratio",
+        "bare original",
+        "ratio",
+    ]);
+    for (name, rows) in predicates() {
+        measure(&name, &rows);
+    }
+    println!();
+}
+
+/// Prints the row of one predicate.
+fn measure(name: &str, rows: &[u64]) {
+    let count = rows.len() / 3;
+    let (mut literals, mut ends) = (vec![0; 8_192], vec![0; 1_024]);
+    let listed = fontrisc::split(b"", rows, &mut literals, &mut ends).expect("a good predicate");
+    let things = count + listed.literals;
+    let tree = tree_of(b"", rows);
+    let [ours, theirs, bare] = best([
+        &mut || {
+            let split = |()| fontrisc::split(b"", black_box(rows), &mut literals, &mut ends);
+            nanoseconds(things, || (), split)
+        },
+        &mut || nanoseconds(things, || tree.clone(), |tree| tree.into_cnf_vec().len()),
+        &mut || nanoseconds(things, || tree.clone(), |tree| tree.into_cnf_vec()),
+    ]);
+    let each = format!("{:.1} ns", ours / count as f64);
+    row(&[
+        name.to_string(),
+        count.to_string(),
+        listed.clauses.to_string(),
+        listed.literals.to_string(),
+        shown(ours),
+        each,
+        shown(theirs),
+        ratio(ours, theirs),
+        shown(bare),
+        ratio(ours, bare),
+    ]);
+}

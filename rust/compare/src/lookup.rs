@@ -1,0 +1,147 @@
+//! The comparison of `lookup` and `value_at`.
+
+use crate::entries::{LooksUp, Rules};
+use crate::included::{self, Verdict};
+use crate::predicates;
+use crate::run::{Comparison, Outcome};
+use crate::shrink::{Shrinks, lower};
+use crate::split::write_predicate;
+use oracle::cases::{Dice, Predicate, lay};
+use oracle::expression::Clause;
+use oracle::plain;
+use oracle::plain::refusal::{NO_SUCH, NOT_LOOKUP};
+use std::fmt::{Display, Formatter};
+
+/// What the lookup entries are lent and asked.
+#[derive(Clone, Debug, PartialEq, Eq)]
+pub struct Case {
+    /// The text.
+    pub text: Vec<u8>,
+    /// The predicate rows.
+    pub rows: Vec<u64>,
+    /// The number of the clause.
+    pub clause: usize,
+    /// The number of the value; `lookup` does not ask it.
+    pub n: usize,
+}
+
+/// Makes a case by chance.
+pub fn made(dice: &mut Dice) -> Case {
+    let made = match dice.below(3) {
+        0 => predicates::made(dice),
+        _ => lay(&predicates::lookups(dice)),
+    };
+    let (clauses, _) = predicates::counts(&made);
+    let clause = number(dice, clauses);
+    let values = plain::lookup(&made.text, &made.rows, clause).map_or(0, |l| l.values.len());
+    let n = number(dice, values);
+    Case { text: made.text, rows: made.rows, clause, n }
+}
+
+/// A number below a count, most of the time.
+fn number(dice: &mut Dice, count: usize) -> usize {
+    match dice.below(12) {
+        0 => count,
+        1 => dice.pick(&[usize::MAX, 1 << 32, 1 << 16, count + 1]),
+        2 => 0,
+        3 => count.saturating_sub(1),
+        _ => dice.below(count.max(1)),
+    }
+}
+
+/// The original's clauses of a case, if the clause asked for is among them.
+fn clauses(case: &Case, number: u32) -> Option<Vec<Clause>> {
+    let number = u64::from(number);
+    if number != 0 && number != NOT_LOOKUP && number != NO_SUCH {
+        return None;
+    }
+    let list = plain::split(&case.text, &case.rows).ok()?;
+    if case.clause >= list.len() {
+        return None;
+    }
+    included::clauses(&case.text, &case.rows, list.len() as u64)
+}
+
+/// What comes of equal answers and a verdict.
+fn outcome(ours: String, number: u32, verdict: Verdict) -> Outcome {
+    match verdict {
+        Verdict::Other(theirs) => {
+            Outcome::Differs(format!("answer: {ours}; by the original {theirs}"))
+        }
+        verdict => Outcome::Agrees(number, verdict),
+    }
+}
+
+/// Compares `lookup` of a side with the rules and with the original.
+pub struct Lookup<'s, S>(pub &'s S);
+
+impl<S: LooksUp> Comparison for Lookup<'_, S> {
+    type Case = Case;
+
+    fn compare(&mut self, case: &Case) -> Outcome {
+        let ours = self.0.lookup(&case.text, &case.rows, case.clause);
+        let rules = Rules.lookup(&case.text, &case.rows, case.clause);
+        if ours != rules {
+            return Outcome::Differs(format!("answer: {ours:?}; by the rules {rules:?}"));
+        }
+        let found = (ours.0 == 0).then_some((ours.1, ours.2));
+        let verdict = clauses(case, ours.0)
+            .map_or(Verdict::Class(0), |made| included::looking(&made, case.clause, found));
+        outcome(format!("{ours:?}"), ours.0, verdict)
+    }
+}
+
+/// Compares `value_at` of a side with the rules and with the original.
+pub struct Value<'s, S>(pub &'s S);
+
+impl<S: LooksUp> Comparison for Value<'_, S> {
+    type Case = Case;
+
+    fn compare(&mut self, case: &Case) -> Outcome {
+        let ours = self.0.value(&case.text, &case.rows, case.clause, case.n);
+        let rules = Rules.value(&case.text, &case.rows, case.clause, case.n);
+        if ours != rules {
+            return Outcome::Differs(format!("answer: {ours:?}; by the rules {rules:?}"));
+        }
+        let verdict = clauses(case, ours.0).map_or(Verdict::Class(0), |made| {
+            let row = (ours.0 == 0).then_some(ours.1);
+            valued(&made, case, ours.0, row)
+        });
+        outcome(format!("{ours:?}"), ours.0, verdict)
+    }
+}
+
+/// Holds a value to the original's value with that number.
+fn valued(made: &[Clause], case: &Case, number: u32, ours: Option<[u64; 3]>) -> Verdict {
+    if made.iter().any(|clause| clause.literals.is_none()) {
+        return Verdict::Class(10);
+    }
+    let clause = &made[case.clause];
+    let theirs = clause.lookup.as_ref().and_then(|lookup| lookup.rows.get(case.n).copied());
+    if theirs == ours {
+        Verdict::Same
+    } else if clause.altered && u64::from(number) == NOT_LOOKUP {
+        Verdict::Class(9)
+    } else {
+        Verdict::Other(format!("{theirs:?}"))
+    }
+}
+
+impl Shrinks for Case {
+    fn smaller(&self) -> Box<dyn Iterator<Item = Case> + '_> {
+        let made = Predicate { text: self.text.clone(), rows: self.rows.clone() };
+        let fewer: Vec<Predicate> = predicates::smaller(&made).collect();
+        let fewer =
+            fewer.into_iter().map(|Predicate { text, rows }| Case { text, rows, ..self.clone() });
+        let clause = lower(self.clause).map(|clause| Case { clause, ..self.clone() });
+        let n = lower(self.n).map(|n| Case { n, ..self.clone() });
+        Box::new(fewer.chain(clause).chain(n))
+    }
+}
+
+impl Display for Case {
+    fn fmt(&self, f: &mut Formatter<'_>) -> std::fmt::Result {
+        write_predicate(f, &self.text, &self.rows)?;
+        write!(f, "clause {}, value {}", self.clause, self.n)
+    }
+}

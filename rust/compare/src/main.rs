@@ -1,0 +1,141 @@
+//! `compare ENTRY WHICH`: compares one entry of the proved library with the
+//! rules and with the original, and exits with 1 at the first difference.
+
+use compare::all;
+use compare::edges;
+use compare::entries::Library;
+use compare::parse::Parse;
+use compare::run::{self, Chosen, Difference, Tally};
+use compare::spelled::{self, Spelled};
+use compare::tokens;
+use std::process::ExitCode;
+use std::time::Instant;
+
+/// How it is called.
+const USAGE: &str = "usage: compare parse --exhaustive LENGTH
+       compare parse --parts LENGTH
+       compare split --exhaustive ATOMS
+       compare parse|split --edges
+       compare parse|spelled|split|lookup|value --cases COUNT --seed SEED [--from CASE]
+       compare all --cases COUNT --seed SEED
+       compare all --seed SEED
+
+--exhaustive: every string of up to LENGTH tokens over the 34 tokens of expressions,
+              or every tree of AND, OR and NOT over up to ATOMS atoms.
+--parts:      every string of up to LENGTH tokens over 19, one for each part they play.
+--edges:      the limits from both sides.
+--cases:      COUNT cases by chance, the first of them number CASE (0).
+all:          all five entries in turn; without a COUNT, until it is stopped.";
+
+/// Which cases are compared.
+#[derive(Clone, Copy)]
+enum Which {
+    Edges,
+    Exhaustive(usize),
+    Parts(usize),
+    Chance(Chosen),
+    Endless(u64),
+}
+
+/// The cases that the arguments after the entry ask for.
+fn which(arguments: &[&str]) -> Option<Which> {
+    if *arguments == ["--edges"] {
+        return Some(Which::Edges);
+    }
+    let [option, value, rest @ ..] = arguments else { return None };
+    let number: u64 = value.parse().ok()?;
+    match (*option, rest) {
+        ("--exhaustive", []) => Some(Which::Exhaustive(number as usize)),
+        ("--parts", []) => Some(Which::Parts(number as usize)),
+        ("--seed", []) => Some(Which::Endless(number)),
+        ("--cases", ["--seed", seed]) => {
+            Some(Which::Chance(Chosen { seed: seed.parse().ok()?, from: 0, cases: number }))
+        }
+        ("--cases", ["--seed", seed, "--from", from]) => {
+            let (seed, from) = (seed.parse().ok()?, from.parse().ok()?);
+            Some(Which::Chance(Chosen { seed, from, cases: number }))
+        }
+        _ => None,
+    }
+}
+
+/// What a run comes to; none if there is no such run.
+type Ran = Option<Result<Tally, Box<Difference>>>;
+
+/// Runs one comparison.
+fn run(entry: &str, which: Which) -> Ran {
+    Some(match (entry, which) {
+        ("parse", Which::Edges) => {
+            run::listed(&mut Parse::of(&Library), edges::of_parse().into_iter())
+        }
+        ("parse", Which::Exhaustive(longest)) => run::every_string(&Library, run::EVERY, longest),
+        ("parse", Which::Parts(longest)) => run::every_string(&Library, run::PARTS, longest),
+        ("parse", Which::Chance(chosen)) => {
+            run::by_chance(&mut Parse::of(&Library), chosen, tokens::made)
+        }
+        ("spelled", Which::Chance(chosen)) => {
+            run::by_chance(&mut Spelled(&Library), chosen, spelled::made)
+        }
+        ("all", Which::Chance(Chosen { seed, from: 0, cases })) => {
+            all::turns(seed, cases.div_ceil(all::TURN), |tally| println!("{tally}\n"))
+        }
+        ("all", Which::Endless(seed)) => all::turns(seed, u64::MAX, |tally| println!("{tally}\n")),
+        #[cfg(split)]
+        ("split", which) => return split(which),
+        #[cfg(lookup)]
+        ("lookup", Which::Chance(chosen)) => {
+            use compare::lookup::{Lookup, made};
+            run::by_chance(&mut Lookup(&Library), chosen, made)
+        }
+        #[cfg(lookup)]
+        ("value", Which::Chance(chosen)) => {
+            use compare::lookup::{Value, made};
+            run::by_chance(&mut Value(&Library), chosen, made)
+        }
+        _ => return None,
+    })
+}
+
+/// Runs a comparison of `split`.
+#[cfg(split)]
+fn split(which: Which) -> Ran {
+    use compare::predicates;
+    use compare::split::{Split, made};
+    Some(match which {
+        Which::Edges => run::listed(&mut Split::of(&Library), edges::of_split().into_iter()),
+        Which::Exhaustive(atoms) => {
+            run::listed(&mut Split::of(&Library), predicates::every_small(atoms))
+        }
+        Which::Chance(chosen) => run::by_chance(&mut Split::of(&Library), chosen, made),
+        Which::Parts(_) | Which::Endless(_) => return None,
+    })
+}
+
+fn main() -> ExitCode {
+    let arguments: Vec<String> = std::env::args().skip(1).collect();
+    let arguments: Vec<&str> = arguments.iter().map(String::as_str).collect();
+    let asked = arguments.split_first().and_then(|(entry, rest)| Some((*entry, which(rest)?)));
+    let Some((entry, which)) = asked else {
+        eprintln!("{USAGE}");
+        return ExitCode::from(2);
+    };
+    let start = Instant::now();
+    // The original has no limit on levels, and trees are as deep as they are long.
+    match oracle::deep(|| run(entry, which)) {
+        None => {
+            eprintln!(
+                "{USAGE}\nThe library that was linked has no such entry, or it has no such run."
+            );
+            ExitCode::from(2)
+        }
+        Some(Ok(tally)) => {
+            println!("{tally}");
+            println!("{:.1} seconds", start.elapsed().as_secs_f64());
+            ExitCode::SUCCESS
+        }
+        Some(Err(difference)) => {
+            println!("{difference}");
+            ExitCode::FAILURE
+        }
+    }
+}

@@ -1,0 +1,168 @@
+//! The comparison of `parse`.
+
+use crate::entries::{Reads, Rules};
+use crate::included::{self, Verdict};
+use crate::lent::Lent;
+use crate::run::{Comparison, Outcome};
+use crate::shrink::{Shrinks, cuts, lower};
+use oracle::plain::{self, limit};
+use std::fmt::{Display, Formatter};
+
+/// What `parse` is lent: text, tokens, and a table of so many numbers.
+#[derive(Clone, Debug, PartialEq, Eq)]
+pub struct Case {
+    /// The text.
+    pub text: Vec<u8>,
+    /// The token table.
+    pub tokens: Vec<u32>,
+    /// The length of the row table.
+    pub slots: usize,
+}
+
+/// Compares `parse` of a side with the rules and with the original.
+pub struct Parse<'s, S> {
+    side: &'s S,
+    ours: Lent<u64>,
+    rules: Lent<u64>,
+}
+
+impl<'s, S: Reads> Parse<'s, S> {
+    /// A comparison of one side.
+    pub fn of(side: &'s S) -> Self {
+        Parse { side, ours: Lent::new(0), rules: Lent::new(0) }
+    }
+
+    /// One case: the answers must be the same, number for number, and so must
+    /// be the table. `asked` says whether the original is asked too.
+    pub fn lend(&mut self, text: &[u8], tokens: &[u32], slots: usize, asked: bool) -> Outcome {
+        self.ours.renew(slots);
+        self.rules.renew(slots);
+        let ours = self.side.parse(text, tokens, self.ours.part());
+        let rules = Rules.parse(text, tokens, self.rules.part());
+        if ours != rules {
+            return Outcome::Differs(format!("{} by the rules {}", said(ours), said(rules)));
+        }
+        if let Some(place) = self.ours.differs_from(&self.rules) {
+            return Outcome::Differs(self.numbers_at(said(ours), place));
+        }
+        let verdict = match asked {
+            true => included::reading(text, tokens, ours.0, ours.1, self.ours.seen()),
+            false => Verdict::Class(0),
+        };
+        match verdict {
+            Verdict::Other(theirs) => {
+                Outcome::Differs(format!("{} by the original {theirs}", said(ours)))
+            }
+            verdict => Outcome::Agrees(ours.0, verdict),
+        }
+    }
+
+    /// Both tables where they part.
+    fn numbers_at(&self, said: String, place: isize) -> String {
+        let at = |lent: &Lent<u64>| {
+            usize::try_from(place).ok().and_then(|n| lent.seen().get(n).copied())
+        };
+        match (at(&self.ours), at(&self.rules)) {
+            (Some(ours), Some(rules)) => {
+                format!("{said} table number {place} is {ours} by the rules {rules}")
+            }
+            _ => format!("{said} a number was written at {place}, outside the table"),
+        }
+    }
+}
+
+/// An answer for people.
+fn said((number, at): (u32, u64)) -> String {
+    match fontrisc::Refusal::of(number) {
+        None if number == 0 => format!("answer: {at} rows;"),
+        None => format!("answer: unknown number {number} with {at};"),
+        Some(refusal) => format!("answer: {refusal} at {at};"),
+    }
+}
+
+impl<S: Reads> Comparison for Parse<'_, S> {
+    type Case = Case;
+
+    fn compare(&mut self, case: &Case) -> Outcome {
+        let kept = case.clone();
+        let outcome = self.lend(&case.text, &case.tokens, case.slots, true);
+        if kept != *case {
+            return Outcome::Differs("the text or the tokens were written to".to_string());
+        }
+        outcome
+    }
+}
+
+impl Shrinks for Case {
+    fn smaller(&self) -> Box<dyn Iterator<Item = Case> + '_> {
+        let count = self.tokens.len() / 3;
+        let needed = self.needed();
+        let tokens = cuts(count).flat_map(move |cut| {
+            let fewer = self.without(cut);
+            let suited = needed.and_then(|needed| fewer.suited(needed));
+            [Some(fewer), suited].into_iter().flatten()
+        });
+        let ragged = (!self.tokens.len().is_multiple_of(3))
+            .then(|| Case { tokens: self.tokens[..3 * count].to_vec(), ..self.clone() });
+        let slots = lower(self.slots).map(|slots| Case { slots, ..self.clone() });
+        let text = lower(self.text.len())
+            .map(|length| Case { text: self.text[..length].to_vec(), ..self.clone() });
+        let spans = (0..count).filter_map(|n| self.with_plain_span(n));
+        Box::new(tokens.chain(ragged).chain(slots).chain(text).chain(spans))
+    }
+}
+
+impl Case {
+    /// The case without some of its tokens.
+    fn without(&self, cut: std::ops::Range<usize>) -> Case {
+        let mut tokens = self.tokens.clone();
+        tokens.drain(3 * cut.start..3 * cut.end);
+        Case { tokens, ..self.clone() }
+    }
+
+    /// How many numbers of the table the rows would fill if there were room.
+    fn needed(&self) -> Option<usize> {
+        let rows = plain::parse(&self.text, &self.tokens, limit::ROWS, limit::LEVELS);
+        rows.ok().map(|rows| 3 * rows.len())
+    }
+
+    /// The case with its table as much longer or shorter than needed as it was
+    /// when so many numbers were.
+    fn suited(&self, needed: usize) -> Option<Case> {
+        let slots = (self.needed()? + self.slots).checked_sub(needed)?;
+        (slots != self.slots).then(|| Case { slots, ..self.clone() })
+    }
+
+    /// The case with the first byte, or no bytes, as the span of a token.
+    fn with_plain_span(&self, n: usize) -> Option<Case> {
+        let plain = [0, self.text.len().min(1) as u32];
+        let mut tokens = self.tokens.clone();
+        let span = &mut tokens[3 * n + 1..3 * n + 3];
+        if *span == plain || *span == [0, 0] {
+            return None;
+        }
+        span.copy_from_slice(&plain);
+        Some(Case { tokens, ..self.clone() })
+    }
+}
+
+impl Display for Case {
+    fn fmt(&self, f: &mut Formatter<'_>) -> std::fmt::Result {
+        writeln!(f, "text of {} bytes: \"{}\"", self.text.len(), self.text.escape_ascii())?;
+        writeln!(f, "tokens: {:?}", self.tokens)?;
+        let words = self.tokens.chunks(3).map(|token| word(token[0]));
+        writeln!(f, "kinds: {}", words.collect::<Vec<_>>().join(" "))?;
+        write!(f, "row table of {} numbers", self.slots)
+    }
+}
+
+/// A word for a token's kind.
+fn word(kind: u32) -> String {
+    match kind {
+        1 => "Number".to_string(),
+        2 => "String".to_string(),
+        3 => "Ident".to_string(),
+        4..=88 => oracle::cases::word_of(kind).to_string(),
+        _ => format!("?{kind}"),
+    }
+}

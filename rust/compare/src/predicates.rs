@@ -1,0 +1,315 @@
+//! Predicates by chance, every small one, and smaller ones from large ones.
+
+use crate::shrink::{cuts, lower};
+use crate::split::Case;
+use oracle::cases::*;
+use oracle::plain::predicate::operands;
+use oracle::plain::{self, limit};
+
+/// The kinds of an AND and an OR.
+const AND: u64 = 7;
+const OR: u64 = 8;
+
+/// Makes a predicate by chance, good or bad.
+pub fn made(dice: &mut Dice) -> Predicate {
+    match dice.below(40) {
+        0..18 => lay(&small(dice)),
+        18..25 => {
+            let made = lay(&small(dice));
+            damaged(dice, made)
+        }
+        25..32 => lay(&lookups(dice)),
+        32..36 => lay(&product(dice)),
+        36..38 => lay(&dressed(&medium(dice), dice)),
+        38 => odd(dice),
+        _ => lay(&long(dice)),
+    }
+}
+
+/// A small tree over atoms of every sort.
+fn small(dice: &mut Dice) -> Tree {
+    let depth = dice.below(7);
+    random_tree(dice, depth, &random_atom)
+}
+
+/// A conjunction of lookups, most of them on one column.
+pub fn lookups(dice: &mut Dice) -> Tree {
+    let clause = |dice: &mut Dice| {
+        let literals = if dice.below(12) == 0 { 40 } else { dice.below(5) };
+        let first = looking(dice);
+        (0..literals).fold(first, |tree, _| or(tree, looking(dice)))
+    };
+    let first = clause(dice);
+    (0..dice.below(4)).fold(first, |tree, _| and(tree, clause(dice)))
+}
+
+/// A literal of the lookup sort; now and then one that only the original takes
+/// for one, because it rewrites below atoms.
+fn looking(dice: &mut Dice) -> Tree {
+    let doubled = || not(not(Tree::Column(0)));
+    match dice.below(60) {
+        0 => is(doubled(), dice.below(2) as u64),
+        1 => equal(doubled(), random_constant(dice)),
+        _ => random_lookup(dice),
+    }
+}
+
+/// A chain of one kind over columns, to the left, to the right or balanced.
+fn chain(dice: &mut Dice, kind: u64, atoms: usize) -> Tree {
+    let lean = dice.below(3);
+    leaning(lean, kind, 0, atoms.max(1) as u64)
+}
+
+/// A chain over the columns from `first` on.
+fn leaning(lean: usize, kind: u64, first: u64, atoms: u64) -> Tree {
+    if atoms == 1 {
+        return Tree::Column(first);
+    }
+    let left = match lean {
+        0 => atoms - 1,
+        1 => 1,
+        _ => atoms / 2,
+    };
+    let right = leaning(lean, kind, first + left, atoms - left);
+    Tree::Binary(kind, Box::new(leaning(lean, kind, first, left)), Box::new(right))
+}
+
+/// ANDs joined by ORs, or the same under a NOT: close to as many clauses and
+/// literals as allowed, or past it.
+fn product(dice: &mut Dice) -> Tree {
+    let (inner, outer) = dice.pick(&[(AND, OR), (OR, AND)]);
+    let shapes: &[&[usize]] = &[
+        &[2, 2, 2, 2, 2, 2, 4, 4],
+        &[2, 2, 2, 2, 2, 2, 2, 2, 4],
+        &[32, 32],
+        &[33, 32],
+        &[32, 31],
+        &[1, 33, 31],
+        &[10, 10, 10],
+        &[2, 2, 2, 2, 2, 2, 2, 2, 2, 2],
+        &[16, 8, 8],
+        &[16, 8, 8, 1],
+        &[3, 3, 3, 3, 3, 3],
+    ];
+    let sizes = dice.pick(shapes);
+    let mut parts = sizes.iter().map(|size| chain(dice, inner, *size)).collect::<Vec<_>>();
+    while parts.len() > 1 {
+        let at = dice.below(parts.len() - 1);
+        let right = parts.remove(at + 1);
+        let left = std::mem::replace(&mut parts[at], Tree::Null);
+        parts[at] = Tree::Binary(outer, Box::new(left), Box::new(right));
+    }
+    let tree = parts.pop().expect("one part is left");
+    if inner == OR || dice.below(8) == 0 { not(tree) } else { tree }
+}
+
+/// A tree of some fifty rows in a shape that is split far.
+fn medium(dice: &mut Dice) -> Tree {
+    let outer = dice.pick(&[AND, OR]);
+    let parts = 1 + dice.below(3);
+    let mut tree = chain(dice, 15 - outer, 1);
+    for _ in 0..parts {
+        let inner = dice.pick(&[AND, OR]);
+        let atoms = 1 + dice.below(12);
+        let part = chain(dice, inner, atoms);
+        let part = if dice.below(3) == 0 { not(part) } else { part };
+        tree = Tree::Binary(outer, Box::new(tree), Box::new(part));
+    }
+    tree
+}
+
+/// The tree with its columns replaced by atoms that have operands.
+fn dressed(tree: &Tree, dice: &mut Dice) -> Tree {
+    match tree {
+        Tree::Unary(9, inner) => not(dressed(inner, dice)),
+        Tree::Binary(kind, left, right) => {
+            let left = dressed(left, dice);
+            Tree::Binary(*kind, Box::new(left), Box::new(dressed(right, dice)))
+        }
+        _ => match dice.below(4) {
+            // An AND below an atom is the atom's own affair.
+            0 => equal(and(Tree::Column(1), not(Tree::Column(2))), Tree::Boolean(true)),
+            1 => is(or(Tree::Null, Tree::Column(3)), 0),
+            _ => random_atom(dice),
+        },
+    }
+}
+
+/// A tree with about as many rows as allowed.
+fn long(dice: &mut Dice) -> Tree {
+    let atoms = [1_024, 1_023, 1_022, 1_000, 511, 200];
+    let atoms = dice.pick(&atoms);
+    let (kind, other) = dice.pick(&[(AND, OR), (OR, AND)]);
+    let tree = match dice.below(6) {
+        0 => chain(dice, kind, atoms),
+        1 => {
+            let left = chain(dice, kind, atoms - 1);
+            Tree::Binary(other, Box::new(left), Box::new(Tree::Column(9)))
+        }
+        2 => {
+            let right = chain(dice, kind, atoms - 1);
+            Tree::Binary(other, Box::new(Tree::Column(9)), Box::new(right))
+        }
+        3 => (0..2 * atoms - 1).fold(Tree::Column(0), |tree, _| not(tree)),
+        4 => (0..atoms / 2).fold(Tree::Column(0), |tree, n| {
+            let kind = if n % 2 == 0 { kind } else { other };
+            not(Tree::Binary(kind, Box::new(Tree::Column(1)), Box::new(tree)))
+        }),
+        _ => (0..2 * atoms - 1).fold(Tree::Column(0), |tree, _| Tree::Unary(20, Box::new(tree))),
+    };
+    let nots = dice.below(3);
+    (0..nots).fold(tree, |tree, _| not(tree))
+}
+
+/// A predicate with a few numbers changed, rows dropped or swapped, or a ragged
+/// end.
+fn damaged(dice: &mut Dice, mut made: Predicate) -> Predicate {
+    for _ in 0..1 + dice.below(2) {
+        if made.rows.is_empty() {
+            break;
+        }
+        let at = dice.below(made.rows.len());
+        let row = at / 3 * 3;
+        match dice.below(9) {
+            0 => made.rows[at] = made.rows[at].wrapping_add(1),
+            1 => made.rows[at] = made.rows[at].wrapping_sub(1),
+            2 => made.rows[at] = dice.pick(&[0, 1, 2, 25, 65_535, 65_536, 1 << 32, u64::MAX]),
+            3 => made.rows[row] = 1 + dice.below(25) as u64,
+            4 => drop(made.rows.drain(row..(row + 3).min(made.rows.len()))),
+            5 => made.rows.truncate(at),
+            6 if made.rows.len().is_multiple_of(3) => made.rows.swap(row + 1, row + 2),
+            7 => made.rows.extend([6, dice.below(4) as u64, 0].iter().take(1 + dice.below(3))),
+            _ => {
+                let start = u64::MAX - dice.below(3) as u64;
+                let length = dice.below(4) as u64;
+                made.rows.extend([5, start, length.wrapping_sub(start)]);
+            }
+        }
+    }
+    made
+}
+
+/// Texts and tables at their limits, and nothing at all.
+fn odd(dice: &mut Dice) -> Predicate {
+    let rows = match dice.below(5) {
+        0 => Vec::new(),
+        1 => [1, 0, 0].repeat(limit::ROWS + dice.below(3) - 1),
+        2 => [[6, 1, 0].repeat(limit::ROWS), vec![9; 1 + dice.below(2)]].concat(),
+        3 => vec![5, limit::TEXT as u64 - 1, dice.below(3) as u64],
+        _ => lay(&small(dice)).rows,
+    };
+    let length = dice.pick(&[0, 1, limit::TEXT - 1, limit::TEXT, limit::TEXT + 1]);
+    Predicate { text: vec![b's'; length], rows }
+}
+
+/// Every tree of AND, OR and NOT over up to so many columns, and the same with
+/// other atoms, each with lists that are long enough and with some that are
+/// not. The fewer atoms, the more NOTs on each node.
+pub fn every_small(atoms: usize) -> impl Iterator<Item = Case> {
+    let nots = [9, 4, 2, 2, 1];
+    let counts = (1..=atoms.min(nots.len())).flat_map(move |count| {
+        let shapes = shapes(0, count as u64, nots[count - 1]);
+        shapes.into_iter().enumerate()
+    });
+    counts.flat_map(|(n, tree)| {
+        let other = dressed(&tree, &mut Dice::new(n as u64));
+        [tree, other].into_iter().flat_map(move |tree| around(lay(&tree), n))
+    })
+}
+
+/// A predicate with lists just long enough, one too short, and a little longer.
+fn around(made: Predicate, n: usize) -> impl Iterator<Item = Case> {
+    let (clauses, literals) = counts(&made);
+    let lengths = [
+        (literals, clauses),
+        (literals + n % 5, clauses + n % 3),
+        (literals.saturating_sub(1), clauses),
+        (literals, clauses.saturating_sub(1)),
+    ];
+    lengths.into_iter().map(move |(literals, ends)| Case {
+        text: made.text.clone(),
+        rows: made.rows.clone(),
+        literals,
+        ends,
+    })
+}
+
+/// How many clauses and literals a predicate comes to; none if it is refused.
+pub fn counts(made: &Predicate) -> (usize, usize) {
+    let clauses = plain::split(&made.text, &made.rows).unwrap_or_default();
+    (clauses.len(), clauses.iter().map(Vec::len).sum())
+}
+
+/// Smaller predicates, the boldest first: an operand in the place of a row, a
+/// column in the place of a row, rows cut out, less text.
+pub fn smaller(made: &Predicate) -> Box<dyn Iterator<Item = Predicate> + '_> {
+    let text = lower(made.text.len())
+        .map(|length| Predicate { text: made.text[..length].to_vec(), rows: made.rows.clone() });
+    let Some(starts) = starts(made) else {
+        let cut = cuts(made.rows.len()).map(|cut| {
+            let mut rows = made.rows.clone();
+            rows.drain(cut);
+            Predicate { text: made.text.clone(), rows }
+        });
+        return Box::new(cut.chain(text));
+    };
+    let all = (0..starts.len()).rev();
+    let hoisted = all.flat_map(move |r| {
+        let starts = starts.clone();
+        let leaf = (starts[r] < r).then(|| with_leaf(made, &starts, r));
+        let parts = operands(&row(made, r)).into_iter();
+        parts.map(move |o| with_operand(made, &starts, r, o as usize)).chain(leaf)
+    });
+    Box::new(hoisted.chain(text))
+}
+
+/// The three numbers of a row.
+fn row(made: &Predicate, r: usize) -> [u64; 3] {
+    [made.rows[3 * r], made.rows[3 * r + 1], made.rows[3 * r + 2]]
+}
+
+/// The first row of each row's subtree, if the predicate is a good one.
+fn starts(made: &Predicate) -> Option<Vec<usize>> {
+    let rows = plain::check(&made.text, &made.rows).ok()?;
+    let mut starts: Vec<usize> = Vec::new();
+    for (r, row) in rows.iter().enumerate() {
+        let first = operands(row).first().map_or(r, |o| starts[*o as usize]);
+        starts.push(first);
+    }
+    Some(starts)
+}
+
+/// The predicate with the subtree of row `r` replaced by that of its operand.
+fn with_operand(made: &Predicate, starts: &[usize], r: usize, operand: usize) -> Predicate {
+    let (first, shift) = (starts[r], starts[operand] - starts[r]);
+    let kept: Vec<[u64; 3]> = (starts[operand]..=operand)
+        .map(|n| moved(row(made, n), |o| if o < starts[operand] { o } else { o - shift }))
+        .collect();
+    replaced(made, first..r + 1, &kept)
+}
+
+/// The predicate with the subtree of row `r` replaced by a column.
+fn with_leaf(made: &Predicate, starts: &[usize], r: usize) -> Predicate {
+    replaced(made, starts[r]..r + 1, &[[6, 0, 0]])
+}
+
+/// The predicate with the rows of a subtree replaced by those of another.
+fn replaced(made: &Predicate, gone: std::ops::Range<usize>, by: &[[u64; 3]]) -> Predicate {
+    let fewer = gone.len() - by.len();
+    let count = made.rows.len() / 3;
+    let before = made.rows[..3 * gone.start].iter().copied();
+    let after = (gone.end..count)
+        .map(|n| moved(row(made, n), |o| if o < gone.start { o } else { o - fewer }));
+    let rows = before.chain(by.iter().copied().chain(after).flatten()).collect();
+    Predicate { text: made.text.clone(), rows }
+}
+
+/// A row with its operands' numbers changed.
+fn moved([kind, x, y]: [u64; 3], number: impl Fn(usize) -> usize) -> [u64; 3] {
+    let number = |n: u64| number(n as usize) as u64;
+    match operands(&[kind, x, y]).len() {
+        0 => [kind, x, y],
+        1 => [kind, number(x), y],
+        _ => [kind, number(x), number(y)],
+    }
+}

@@ -1,0 +1,78 @@
+//! The comparison of `spelled`.
+
+use crate::entries::{Reads, Rules};
+use crate::included::Verdict;
+use crate::run::{Comparison, Outcome};
+use crate::shrink::{Shrinks, cuts, lower};
+use crate::tokens;
+use oracle::cases::Dice;
+use std::fmt::{Display, Formatter};
+
+/// What `spelled` is lent, and the token asked for.
+#[derive(Clone, Debug, PartialEq, Eq)]
+pub struct Case {
+    /// The text.
+    pub text: Vec<u8>,
+    /// The token table.
+    pub tokens: Vec<u32>,
+    /// The number of the token.
+    pub n: usize,
+}
+
+/// Makes a case by chance: tables of every sort, bad ones included.
+pub fn made(dice: &mut Dice) -> Case {
+    let table = if dice.below(2) == 0 { tokens::bad_table(dice) } else { tokens::made(dice) };
+    let count = table.tokens.len() / 3;
+    let n = match dice.below(12) {
+        0 => count,
+        1 => dice.pick(&[usize::MAX, usize::MAX / 3, usize::MAX / 3 + 1, 1 << 32, 1 << 62]),
+        2 => count + dice.below(5),
+        _ => dice.below(count.max(1)),
+    };
+    Case { text: table.text, tokens: table.tokens, n }
+}
+
+/// Compares `spelled` of a side with the rules.
+pub struct Spelled<'s, S>(pub &'s S);
+
+impl<S: Reads> Comparison for Spelled<'_, S> {
+    type Case = Case;
+
+    fn compare(&mut self, case: &Case) -> Outcome {
+        let ours = self.0.spelled(&case.text, &case.tokens, case.n);
+        let rules = Rules.spelled(&case.text, &case.tokens, case.n);
+        if ours == rules {
+            Outcome::Agrees(0, Verdict::Class(0))
+        } else {
+            Outcome::Differs(format!("answer: {ours:?}; by the rules {rules:?}"))
+        }
+    }
+}
+
+impl Shrinks for Case {
+    fn smaller(&self) -> Box<dyn Iterator<Item = Case> + '_> {
+        // Tokens cut out before the one asked for change its number.
+        let tokens = cuts(self.tokens.len() / 3).map(|cut| {
+            let before = if cut.end <= self.n { cut.len() } else { 0 };
+            let mut tokens = self.tokens.clone();
+            tokens.drain(3 * cut.start..3 * cut.end);
+            Case { tokens, n: self.n - before, ..self.clone() }
+        });
+        let ragged = self
+            .tokens
+            .split_last()
+            .map(|(_, tokens)| Case { tokens: tokens.to_vec(), ..self.clone() });
+        let n = lower(self.n).map(|n| Case { n, ..self.clone() });
+        let text = lower(self.text.len())
+            .map(|length| Case { text: self.text[..length].to_vec(), ..self.clone() });
+        Box::new(tokens.chain(ragged).chain(n).chain(text))
+    }
+}
+
+impl Display for Case {
+    fn fmt(&self, f: &mut Formatter<'_>) -> std::fmt::Result {
+        writeln!(f, "text of {} bytes: \"{}\"", self.text.len(), self.text.escape_ascii())?;
+        writeln!(f, "tokens: {:?}", self.tokens)?;
+        write!(f, "token number {}", self.n)
+    }
+}

@@ -1,0 +1,229 @@
+//! The comparison itself put to the test: the rules with one fault in them must
+//! be found out, and the case made small.
+
+use compare::entries::{LooksUp, Reads, Rules, Splits};
+use compare::lookup::{self, Lookup, Value};
+use compare::parse::Parse;
+use compare::run::{self, Chosen, Comparison, Difference};
+use compare::spelled::{self, Spelled};
+use compare::split::{self, Split};
+use compare::tokens;
+use oracle::cases::Dice;
+use oracle::plain::{self, limit};
+
+/// The rules, with something done to each answer.
+struct Faulty<F>(F);
+
+/// Looks for a difference that must be there.
+fn found<C: Comparison + Send>(
+    mut comparison: C,
+    made: impl Fn(&mut Dice) -> C::Case + Send,
+) -> Difference {
+    let chosen = Chosen { seed: 5, from: 0, cases: 200_000 };
+    let run = oracle::deep(|| run::by_chance(&mut comparison, chosen, made));
+    *run.expect_err("the fault was not found")
+}
+
+/// The numbers in a line of a difference that starts with a word.
+fn numbers(difference: &Difference, line: &str) -> usize {
+    let line = difference.smallest.lines().find(|l| l.starts_with(line)).expect("the line");
+    line.split(|c: char| !c.is_ascii_digit()).filter(|part| !part.is_empty()).count()
+}
+
+impl<F: Fn(&[u8], &[u32], &mut [u64], (u32, u64)) -> (u32, u64)> Reads for Faulty<F> {
+    fn parse(&self, text: &[u8], tokens: &[u32], rows: &mut [u64]) -> (u32, u64) {
+        let said = Rules.parse(text, tokens, rows);
+        (self.0)(text, tokens, rows, said)
+    }
+
+    fn spelled(&self, text: &[u8], tokens: &[u32], n: usize) -> (u64, u64) {
+        // An empty part that fits stands at its own start, not at 0.
+        let (start, length) = Rules.spelled(text, tokens, n);
+        if length == 0 { (0, 0) } else { (start, length) }
+    }
+}
+
+/// A fault of `parse` is found and comes down to a table of so many tokens.
+fn parse_fault(
+    most: usize,
+    fault: impl Fn(&[u8], &[u32], &mut [u64], (u32, u64)) -> (u32, u64) + Send + Sync,
+) {
+    let side = Faulty(fault);
+    let difference = found(Parse::of(&side), tokens::made);
+    println!("{difference}");
+    assert!(numbers(&difference, "tokens:") <= 3 * most, "{difference}");
+}
+
+#[test]
+fn one_level_too_many() {
+    parse_fault(130, |text, tokens, rows, said| {
+        match plain::parse(text, tokens, rows.len() / 3, limit::LEVELS + 1) {
+            Ok(made) => {
+                rows[..3 * made.len()].copy_from_slice(made.as_flattened());
+                (0, made.len() as u64)
+            }
+            Err(_) => said,
+        }
+    });
+}
+
+#[test]
+fn a_wrong_kind_of_row() {
+    parse_fault(3, |_, _, rows, (number, at)| {
+        let written = if number == 0 { 3 * at as usize } else { 0 };
+        rows[..written].chunks_mut(3).for_each(|row| row[0] -= u64::from(row[0] == 24));
+        (number, at)
+    });
+}
+
+#[test]
+fn a_row_that_is_not_cleared() {
+    parse_fault(1, |_, _, rows, (number, at)| {
+        if let (1.., Some(last)) = (number, rows.last_mut()) {
+            *last = 1;
+        }
+        (number, at)
+    });
+}
+
+#[test]
+fn a_number_written_after_the_rows() {
+    parse_fault(1, |_, _, rows, (number, at)| {
+        if number == 0 && rows.len() > 3 * at as usize {
+            rows[3 * at as usize] = 0;
+        }
+        (number, at)
+    });
+}
+
+#[test]
+fn no_room_one_token_early() {
+    parse_fault(1, |_, _, _, (number, at)| (number, if number == 9 { at - 1 } else { at }));
+}
+
+#[test]
+fn a_span_that_wraps_round() {
+    parse_fault(1, |text, tokens, rows, said| {
+        let mut fitted = tokens.to_vec();
+        for token in fitted.chunks_exact_mut(3) {
+            if token[1].wrapping_add(token[2]) <= text.len() as u32 {
+                token[1..].fill(0);
+            }
+        }
+        let wrapped = plain::table_fault(text, &fitted).is_none();
+        if said.0 == 2 && wrapped { Rules.parse(text, &fitted, rows) } else { said }
+    });
+}
+
+#[test]
+fn a_large_integer_taken_for_a_float() {
+    parse_fault(1, |text, tokens, rows, (number, at)| {
+        let (start, length) = plain::spelled(text, tokens, at as usize);
+        let bytes = &text[start as usize..][..length as usize];
+        let digits = !bytes.is_empty() && bytes.iter().all(u8::is_ascii_digit);
+        if number == 7 && digits && tokens.len() == 3 && rows.len() >= 3 {
+            rows[0] = 3;
+            return (0, 1);
+        }
+        (number, at)
+    });
+}
+
+#[test]
+fn an_empty_part_at_the_start() {
+    let side = Faulty(|_: &[u8], _: &[u32], _: &mut [u64], said| said);
+    let difference = found(Spelled(&side), spelled::made);
+    assert_eq!(numbers(&difference, "tokens:"), 3, "{difference}");
+}
+
+/// What is done to an answer of `split`.
+struct FaultySplit<F>(F);
+
+impl<F: Fn(&mut [u32], &mut [u32], (u32, u64, u64)) -> (u32, u64, u64)> Splits for FaultySplit<F> {
+    fn split(
+        &self,
+        text: &[u8],
+        rows: &[u64],
+        literals: &mut [u32],
+        ends: &mut [u32],
+    ) -> (u32, u64, u64) {
+        let said = Rules.split(text, rows, literals, ends);
+        (self.0)(literals, ends, said)
+    }
+}
+
+/// A fault of `split` is found and comes down to so many rows.
+fn split_fault(
+    most: usize,
+    fault: impl Fn(&mut [u32], &mut [u32], (u32, u64, u64)) -> (u32, u64, u64) + Send + Sync,
+) {
+    let side = FaultySplit(fault);
+    let difference = found(Split::of(&side), split::made);
+    println!("{difference}");
+    assert!(numbers(&difference, "rows:") <= 3 * most, "{difference}");
+}
+
+#[test]
+fn literals_in_another_order() {
+    split_fault(7, |literals, ends, said| {
+        if said.0 == 0 && said.1 > 2 && ends[2] - ends[1] > 1 {
+            literals.swap(ends[1] as usize, ends[1] as usize + 1);
+        }
+        said
+    });
+}
+
+#[test]
+fn a_list_written_before_it_is_refused() {
+    split_fault(3, |literals, _, said| {
+        if said.0 == 12 && literals.len() > 1 {
+            literals[0] = 0;
+        }
+        said
+    });
+}
+
+#[test]
+fn more_literals_than_allowed() {
+    split_fault(2_048, |_, _, said| if said.0 == 11 { (0, 0, 0) } else { said });
+}
+
+#[test]
+fn a_bad_row_placed_one_row_early() {
+    split_fault(2, |_, _, (number, place, total)| {
+        (number, if number == 10 { place.saturating_sub(1) } else { place }, total)
+    });
+}
+
+/// The rules with two faults in lookups: -0.0 loses its sign, and a value that
+/// is not given is counted.
+struct FaultyLookup;
+
+impl LooksUp for FaultyLookup {
+    fn lookup(&self, text: &[u8], rows: &[u64], clause: usize) -> (u32, u64, u64) {
+        let (number, column, count) = Rules.lookup(text, rows, clause);
+        let nulls = rows.chunks(3).filter(|row| row[0] == 1).count() as u64;
+        if number == 0 { (number, column, count + nulls) } else { (number, column, count) }
+    }
+
+    fn value(&self, text: &[u8], rows: &[u64], clause: usize, n: usize) -> (u32, [u64; 3]) {
+        match Rules.value(text, rows, clause, n) {
+            (0, [4, bits, 0]) if bits == 1 << 63 => (0, [4, 0, 0]),
+            said => said,
+        }
+    }
+}
+
+#[test]
+fn a_value_that_is_not_given_is_counted() {
+    let difference = found(Lookup(&FaultyLookup), lookup::made);
+    println!("{difference}");
+    assert!(numbers(&difference, "rows:") <= 15, "{difference}");
+}
+
+#[test]
+fn a_zero_that_loses_its_sign() {
+    let difference = found(Value(&FaultyLookup), lookup::made);
+    println!("{difference}");
+    assert!(numbers(&difference, "rows:") <= 9, "{difference}");
+}

@@ -1,0 +1,143 @@
+//! A quick run of every comparison. The command `compare` makes long ones.
+
+use compare::edges;
+use compare::entries::Library;
+use compare::parse::Parse;
+use compare::run::{self, Chosen, Difference, Tally};
+use compare::spelled::{self, Spelled};
+use compare::tokens;
+
+/// Fewer where the code is not optimised.
+fn cases(most: u64) -> Chosen {
+    let cases = if cfg!(debug_assertions) { most / 100 } else { most };
+    Chosen { seed: 7, from: 0, cases }
+}
+
+/// Shorter where the code is not optimised.
+fn length(most: usize) -> usize {
+    if cfg!(debug_assertions) { most - 1 } else { most }
+}
+
+/// Runs a comparison on a large stack, as the original needs it, and fails at a
+/// difference.
+fn holds(work: impl FnOnce() -> Result<Tally, Box<Difference>> + Send) -> Tally {
+    match oracle::deep(work) {
+        Ok(tally) => {
+            println!("{tally}");
+            tally
+        }
+        Err(difference) => panic!("{difference}"),
+    }
+}
+
+/// Fails if an answer, or one of these refusals, never came up.
+fn came_up(tally: &Tally, numbers: &[usize]) {
+    for number in [&[0], numbers].concat() {
+        assert!(tally.numbers[number] > 0, "no case with {number}");
+    }
+}
+
+#[test]
+fn every_short_string() {
+    let tally = holds(|| run::every_string(&Library, run::EVERY, length(4)));
+    came_up(&tally, &[3, 4, 5, 6, 7]);
+    assert_eq!(tally.same, tally.cases);
+}
+
+#[test]
+fn every_string_of_five_parts() {
+    let tally = holds(|| run::every_string(&Library, run::PARTS, length(5)));
+    assert_eq!(tally.same, tally.cases);
+}
+
+#[test]
+fn edges_of_parse() {
+    let cases = edges::of_parse().into_iter();
+    let tally = holds(|| run::listed(&mut Parse::of(&Library), cases));
+    came_up(&tally, &[1, 2, 3, 4, 6, 7, 8, 9]);
+}
+
+#[test]
+fn parse_by_chance() {
+    let made = tokens::made;
+    let tally = holds(|| run::by_chance(&mut Parse::of(&Library), cases(500_000), made));
+    came_up(&tally, &[1, 2, 3, 4, 5, 6, 7, 8, 9]);
+}
+
+#[test]
+fn spelled_by_chance() {
+    holds(|| run::by_chance(&mut Spelled(&Library), cases(300_000), spelled::made));
+}
+
+#[cfg(split)]
+mod splitting {
+    use super::*;
+    use compare::predicates;
+    use compare::split::{Split, made};
+
+    #[test]
+    fn edges_of_split() {
+        let tally = holds(|| {
+            let cases = edges::of_split().into_iter();
+            run::listed(&mut Split::of(&Library), cases)
+        });
+        came_up(&tally, &[1, 10, 11, 12]);
+    }
+
+    #[test]
+    fn every_small_tree() {
+        let atoms = length(4);
+        holds(|| run::listed(&mut Split::of(&Library), predicates::every_small(atoms)));
+    }
+
+    #[test]
+    fn split_by_chance() {
+        let tally = holds(|| run::by_chance(&mut Split::of(&Library), cases(30_000), made));
+        came_up(&tally, &[1, 10, 11, 12]);
+    }
+}
+
+#[cfg(lookup)]
+mod lookups {
+    use super::*;
+    use compare::lookup::{Lookup, Value, made};
+
+    #[test]
+    fn lookup_by_chance() {
+        let tally = holds(|| run::by_chance(&mut Lookup(&Library), cases(30_000), made));
+        came_up(&tally, &[1, 10, 11, 13, 14]);
+    }
+
+    #[test]
+    fn value_by_chance() {
+        let tally = holds(|| run::by_chance(&mut Value(&Library), cases(30_000), made));
+        came_up(&tally, &[1, 10, 11, 13, 14]);
+    }
+}
+
+#[test]
+fn all_entries_in_turn() {
+    let turns = cases(5).cases;
+    let tally = holds(move || compare::all::turns(7, turns, |_| ()));
+    assert_eq!(tally.cases, turns * compare::all::TURN);
+}
+
+/// The safe functions hand out what the C functions say.
+#[test]
+fn the_safe_face_says_the_same() {
+    for n in 0..cases(30_000).cases {
+        let case = tokens::made(&mut run::dice(3, n));
+        let (mut safe, mut plain) = (vec![1; case.slots], vec![1; case.slots]);
+        let said = match fontrisc::parse(&case.text, &case.tokens, &mut safe) {
+            Ok(rows) => (0, rows as u64),
+            Err(refused) => (refused.why.number(), refused.place as u64),
+        };
+        assert_eq!(said, fontrisc::numbers::parse(&case.text, &case.tokens, &mut plain));
+        assert_eq!(safe, plain);
+        for token in 0..case.tokens.len().min(9) {
+            let part = fontrisc::spelled(&case.text, &case.tokens, token);
+            let (start, length) = oracle::plain::spelled(&case.text, &case.tokens, token);
+            assert_eq!(part, &case.text[start as usize..][..length as usize]);
+        }
+    }
+}

@@ -1,0 +1,201 @@
+//! The worked examples of docs/FORMAT.md, §12, and those at its limits, run on
+//! the library. The starred ones are proved as well, in the crate `worked`.
+
+use fontrisc::{Listed, Refusal, Refused, Value, lookup, parse, split, value_at};
+use oracle::cases::{Tokens, Tree, and, equal, float, is, lay, not, or, string, words};
+
+/// A refusal.
+fn refused<T>(why: Refusal, place: usize) -> Result<T, Refused> {
+    Err(Refused { why, place })
+}
+
+/// What the library reads in words, into a table of `numbers` numbers. Behind
+/// the rows the table must be as it was; refused, it must hold zeros.
+fn read_into(made: &Tokens, numbers: usize) -> Result<Vec<u64>, Refused> {
+    let mut table = vec![77; numbers];
+    let answer = parse(&made.text, &made.tokens, &mut table);
+    match answer {
+        Ok(rows) => {
+            assert!(table[3 * rows..].iter().all(|n| *n == 77));
+            table.truncate(3 * rows);
+            Ok(table)
+        }
+        Err(why) => {
+            assert!(table.iter().all(|n| *n == 0));
+            Err(why)
+        }
+    }
+}
+
+/// What the library reads in words, with room enough.
+fn read(line: &str) -> Result<Vec<u64>, Refused> {
+    read_into(&words(line), 6_144)
+}
+
+#[test]
+fn accepted_expressions() {
+    let rows = |rows: &[[u64; 3]]| Ok(rows.concat());
+    let powers = [[2, 2, 0], [2, 3, 0], [2, 2, 0], [31, 1, 2], [31, 0, 3]];
+    let rest = [[2, 4, 0], [2, 3, 0], [28, 5, 6], [27, 4, 7]];
+    assert_eq!(read("2 ^ 3 ^ 2 - 4 * 3"), rows(&[&powers[..], &rest[..]].concat()));
+    assert_eq!(read("- 1 !"), rows(&[[2, 1, 0], [13, 0, 0], [15, 1, 0]]));
+    assert_eq!(read("1 + NULL IS NULL"), rows(&[[2, 1, 0], [8, 0, 0], [26, 0, 1], [16, 2, 0]]));
+    assert_eq!(read("a = b < c"), rows(&[[9, 0, 0], [9, 2, 0], [9, 4, 0], [23, 1, 2], [19, 0, 3]]));
+    assert_eq!(read("* * *"), rows(&[[1, 0, 0], [1, 0, 0], [28, 0, 1]]));
+    assert_eq!(read("9223372036854775807"), rows(&[[2, i64::MAX as u64, 0]]));
+}
+
+#[test]
+fn refused_expressions() {
+    assert_eq!(read("1 + NOT 3"), refused(Refusal::NoAtom, 2));
+    assert_eq!(read("1 + 2 IS NULL AND TRUE"), refused(Refusal::LeftOver, 5));
+    assert_eq!(read("a = 1 IS NULL AND b"), refused(Refusal::LeftOver, 5));
+    assert_eq!(read("f ( 1 , )"), refused(Refusal::NoAtom, 4));
+    assert_eq!(read(""), refused(Refusal::End, 0));
+    assert_eq!(read("a ."), refused(Refusal::End, 2));
+    assert_eq!(read("a IS 3"), refused(Refusal::WrongToken, 2));
+    assert_eq!(read("9223372036854775808"), refused(Refusal::BadNumber, 0));
+}
+
+/// The deepest reading by each way down, and the first that is too deep: the
+/// whole is level 1, `n` repetitions of `open` bring it to n + 1.
+#[test]
+fn the_deepest_level_by_each_way() {
+    for (open, inside, close) in [
+        ("( ", "1 ", ") "),
+        ("- ", "1 ", ""),
+        ("NOT ", "1 ", ""),
+        ("1 ^ ", "1 ", ""),
+        ("f ( ", "1 ", ") "),
+    ] {
+        let nested = |n: usize| format!("{}{inside}{}", open.repeat(n), close.repeat(n));
+        let per = open.split_whitespace().count();
+        assert!(read(nested(63).trim_end()).is_ok(), "{open}");
+        assert_eq!(read(nested(64).trim_end()), refused(Refusal::TooDeep, 64 * per), "{open}");
+    }
+}
+
+/// `a = 1 + b` makes five rows, after tokens 0, 2, 4, 4 and 4: a table that is
+/// too short for a row is refused at the token after it, and a full one is not.
+#[test]
+fn tables_too_short() {
+    let made = words("a = 1 + b");
+    for numbers in 0..15 {
+        let place = [1, 3, 5, 5, 5][numbers / 3];
+        assert_eq!(read_into(&made, numbers), refused(Refusal::NoRoom, place), "{numbers} numbers");
+    }
+    for numbers in 15..18 {
+        assert_eq!(read_into(&made, numbers).map(|rows| rows.len()), Ok(15));
+    }
+}
+
+/// The clauses that the library lists.
+fn clauses(tree: &Tree) -> Result<Vec<Vec<u32>>, Refused> {
+    let made = lay(tree);
+    let (mut literals, mut ends) = (vec![77; 8_192], vec![77; 1_024]);
+    let Listed { clauses, literals: total } =
+        split(&made.text, &made.rows, &mut literals, &mut ends)?;
+    assert!(literals[total..].iter().chain(&ends[clauses..]).all(|n| *n == 77));
+    let starts = [0].into_iter().chain(ends.iter().copied());
+    Ok(starts
+        .zip(&ends)
+        .take(clauses)
+        .map(|(from, to)| literals[from as usize..*to as usize].to_vec())
+        .collect())
+}
+
+/// An OR of conjunctions, each given by how many atoms it has.
+fn or_of_ands(sizes: &[u64]) -> Tree {
+    let conjunction = |n: &u64| (1..*n).fold(Tree::Column(0), |t, c| and(t, Tree::Column(c)));
+    sizes.iter().map(conjunction).reduce(or).expect("there is one")
+}
+
+#[test]
+fn clause_lists() {
+    let [a, b, c, d] = [0, 1, 2, 3].map(Tree::Column);
+    let tree = or(and(a.clone(), b.clone()), and(c.clone(), d.clone()));
+    assert_eq!(clauses(&tree), Ok(vec![vec![0, 6], vec![0, 8], vec![2, 6], vec![2, 8]]));
+    let tree =
+        or(equal(Tree::Column(4), Tree::Integer(7)), not(and(Tree::Column(5), Tree::Column(6))));
+    assert_eq!(clauses(&tree), Ok(vec![vec![4, 7, 9]]));
+    assert_eq!(clauses(&not(not(not(and(a.clone(), b.clone()))))), Ok(vec![vec![1, 3]]));
+    assert_eq!(clauses(&or(or(and(a, b), c), d)), Ok(vec![vec![0, 6, 10], vec![2, 6, 10]]));
+}
+
+#[test]
+fn clause_limits() {
+    let list = clauses(&or_of_ands(&[2, 2, 2, 2, 2, 2, 4, 4])).unwrap();
+    assert_eq!((list.len(), list.concat().len()), (1_024, 8_192));
+    // 1,024 clauses of nine literals: 9,216.
+    assert_eq!(clauses(&or_of_ands(&[2, 2, 2, 2, 2, 2, 2, 2, 4])), refused(Refusal::TooMany, 0));
+    // 1,025 clauses.
+    let most = or_of_ands(&[32, 32]);
+    assert_eq!(clauses(&most).map(|list| list.len()), Ok(1_024));
+    assert_eq!(clauses(&and(most, Tree::Column(9))), refused(Refusal::TooMany, 0));
+}
+
+/// The column and the values of a predicate's first clause.
+fn looked(tree: &Tree) -> Result<(u16, Vec<String>), Refused> {
+    let made = lay(tree);
+    let found = lookup(&made.text, &made.rows, 0)?;
+    assert_eq!(value_at(&made.text, &made.rows, 0, found.values), refused(Refusal::NoSuch, 0));
+    let values = (0..found.values).map(|n| match value_at(&made.text, &made.rows, 0, n).unwrap() {
+        Value::Float(f) => format!("bits {:x}", f.to_bits()),
+        other => format!("{other:?}"),
+    });
+    Ok((found.column, values.collect()))
+}
+
+#[test]
+fn lookups() {
+    let c = || Tree::Column(7);
+    let one = || Tree::Integer(1);
+    let gives = |values: &[&str]| Ok((7, values.iter().map(|v| v.to_string()).collect::<Vec<_>>()));
+    let tree = or(or(equal(c(), one()), is(c(), 0)), equal(Tree::Integer(2), c()));
+    assert_eq!(looked(&tree), gives(&["Integer(1)", "Null", "Integer(2)"]));
+    assert_eq!(looked(&equal(c(), Tree::Null)), gives(&[]));
+    assert_eq!(
+        looked(&or(equal(c(), one()), equal(Tree::Column(8), one()))),
+        refused(Refusal::NotLookup, 0)
+    );
+}
+
+#[test]
+fn lookups_at_the_edges() {
+    let c = || Tree::Column(7);
+    let gives = |values: &[&str]| Ok((7, values.iter().map(|v| v.to_string()).collect::<Vec<_>>()));
+    // Every NaN, whatever its sign and payload, matches nothing; the numbers next to them do.
+    for bits in [
+        0x7ff0_0000_0000_0001,
+        0x7fff_ffff_ffff_ffff,
+        0xfff0_0000_0000_0001,
+        u64::MAX,
+        0x7ff8_0000_0000_0000,
+    ] {
+        assert_eq!(looked(&equal(c(), Tree::Float(bits))), gives(&[]));
+    }
+    for value in [f64::INFINITY, f64::NEG_INFINITY, 0.0, -0.0, f64::MAX, f64::MIN_POSITIVE] {
+        let bits = format!("bits {:x}", value.to_bits());
+        assert_eq!(looked(&equal(c(), float(value))), gives(&[&bits]));
+    }
+    for value in [i64::MIN, -1, 0, i64::MAX] {
+        assert_eq!(
+            looked(&equal(c(), Tree::Integer(value))),
+            gives(&[&format!("Integer({value})")])
+        );
+    }
+    assert_eq!(looked(&equal(c(), string(""))), gives(&["String([])"]));
+    assert_eq!(looked(&equal(c(), string("a"))), gives(&["String([97])"]));
+    assert_eq!(looked(&is(c(), 1)), gives(&["bits 7ff8000000000000"]));
+    // No lookups: a negated equality, two columns, two constants, a test of something else than a column.
+    let one = || Tree::Integer(1);
+    for tree in [
+        not(equal(c(), one())),
+        equal(c(), c()),
+        equal(one(), one()),
+        is(one(), 0),
+        is(equal(c(), one()), 0),
+    ] {
+        assert_eq!(looked(&tree), refused(Refusal::NotLookup, 0), "{tree:?}");
+    }
+}

@@ -1,0 +1,122 @@
+//! Going through rows, clauses and values one by one, and the same in memory of
+//! their own.
+
+use crate::{Refused, limit, parse};
+
+/// A row of a syntax tree or of a predicate (FORMAT §5.1, §6.1).
+#[derive(Clone, Copy, Debug, PartialEq, Eq, Hash)]
+pub struct Row {
+    /// What kind of node it is.
+    pub kind: u64,
+    /// By kind a value, a token or an operand's row.
+    pub x: u64,
+    /// Likewise.
+    pub y: u64,
+}
+
+/// The rows of a table. A rest that is no whole row is left out.
+///
+/// ```
+/// use fontrisc::{Row, rows};
+///
+/// let table = [9, 0, 0, 2, 1, 0, 19, 0, 1];
+/// assert_eq!(rows(&table).last(), Some(Row { kind: 19, x: 0, y: 1 }));
+/// ```
+pub fn rows(table: &[u64]) -> impl ExactSizeIterator<Item = Row> + DoubleEndedIterator + '_ {
+    table.as_chunks().0.iter().map(|[kind, x, y]| Row { kind: *kind, x: *x, y: *y })
+}
+
+/// Reads a token table as one expression, as [`parse`] does, into a table of
+/// the size that is needed.
+///
+/// ```
+/// use fontrisc::{Row, read};
+///
+/// let table = read(b"-1", &[15, 0, 1, 1, 1, 1]).unwrap();
+/// assert_eq!(table, [Row { kind: 2, x: 1, y: 0 }, Row { kind: 13, x: 0, y: 0 }]);
+/// ```
+pub fn read(text: &[u8], tokens: &[u32]) -> Result<Vec<Row>, Refused> {
+    // No list makes more rows than it has tokens.
+    let mut table = vec![0; 3 * (tokens.len() / 3).min(limit::ROWS)];
+    let written = parse(text, tokens, &mut table)?;
+    Ok(rows(&table[..3 * written]).collect())
+}
+
+/// A literal of a clause: an atom, or one negated atom (FORMAT §8.3).
+#[derive(Clone, Copy, Debug, PartialEq, Eq, Hash)]
+pub struct Literal {
+    /// The atom's row.
+    pub row: usize,
+    /// Whether it is negated.
+    pub negated: bool,
+}
+
+impl From<u32> for Literal {
+    fn from(number: u32) -> Literal {
+        Literal { row: (number / 2) as usize, negated: number % 2 == 1 }
+    }
+}
+
+/// The clauses that the first numbers of `split`'s two lists spell, so many of
+/// them. From lists of another origin it may give clauses that are cut short.
+///
+/// ```
+/// use fontrisc::{Literal, clauses, split};
+///
+/// // a OR NOT b, where a and b are columns 0 and 1
+/// let rows = [6, 0, 0, 6, 1, 0, 9, 1, 0, 8, 0, 2];
+/// let (mut literals, mut ends) = ([0; 8], [0; 4]);
+/// let listed = split(b"", &rows, &mut literals, &mut ends).unwrap();
+/// let mut list = clauses(&literals, &ends[..listed.clauses]);
+/// let clause: Vec<Literal> = list.next().unwrap().collect();
+/// assert_eq!(clause[1], Literal { row: 1, negated: true });
+/// assert!(list.next().is_none());
+/// ```
+#[cfg(feature = "split")]
+pub fn clauses<'l>(
+    literals: &'l [u32],
+    ends: &'l [u32],
+) -> impl ExactSizeIterator<Item = impl ExactSizeIterator<Item = Literal> + 'l> + 'l {
+    let mut start = 0;
+    ends.iter().map(move |end| {
+        let clause = literals.get(start..*end as usize).unwrap_or_default();
+        start = *end as usize;
+        clause.iter().map(|number| Literal::from(*number))
+    })
+}
+
+/// The clauses of a predicate, as [`split`](crate::split) lists them.
+///
+/// ```
+/// // a AND b, where a and b are columns 0 and 1
+/// let list = fontrisc::clauses_of(b"", &[6, 0, 0, 6, 1, 0, 7, 0, 1]).unwrap();
+/// assert_eq!(list.iter().map(|clause| clause[0].row).collect::<Vec<_>>(), [0, 1]);
+/// ```
+#[cfg(feature = "split")]
+pub fn clauses_of(text: &[u8], rows: &[u64]) -> Result<Vec<Vec<Literal>>, Refused> {
+    let (mut literals, mut ends) = (vec![0; limit::LITERALS], vec![0; limit::CLAUSES]);
+    let listed = crate::split(text, rows, &mut literals, &mut ends)?;
+    Ok(clauses(&literals, &ends[..listed.clauses]).map(Iterator::collect).collect())
+}
+
+/// The values of a clause that is a lookup, each asked for by
+/// [`value_at`](crate::value_at) when its turn comes.
+///
+/// ```
+/// use fontrisc::{Value, values};
+///
+/// // column 4 = 7 OR column 4 IS NULL
+/// let rows = [6, 4, 0, 3, 7, 0, 10, 0, 1, 6, 4, 0, 13, 3, 0, 8, 2, 4];
+/// let found: Vec<Value> = values(b"", &rows, 0).unwrap().collect();
+/// assert_eq!(found, [Value::Integer(7), Value::Null]);
+/// ```
+#[cfg(feature = "lookup")]
+pub fn values<'t>(
+    text: &'t [u8],
+    rows: &'t [u64],
+    clause: usize,
+) -> Result<impl ExactSizeIterator<Item = crate::Value<'t>> + 't, Refused> {
+    let found = crate::lookup(text, rows, clause)?;
+    let value = move |n| crate::value_at(text, rows, clause, n);
+    Ok((0..found.values).map(move |n| value(n).expect("there are so many")))
+}

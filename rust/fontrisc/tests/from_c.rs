@@ -1,0 +1,62 @@
+//! A C program over the header and the library: it is compiled with the
+//! compiler that links Rust programs too, and run.
+
+use std::path::Path;
+use std::process::Command;
+
+/// Reads `a = 1` and `1 +`, and spells a token.
+const PROGRAM: &str = r#"
+#include "fontrisc.h"
+#include <stdio.h>
+
+int main(void) {
+    const uint8_t text[] = "a = 1 +";
+    const uint32_t tokens[] = {3, 0, 1, 6, 2, 1, 1, 4, 1, 14, 6, 1};
+    uint64_t rows[12] = {7, 7, 7, 7, 7, 7, 7, 7, 7, 7, 7, 7};
+    uint64_t at = 0, start = 0, length = 0;
+    uint32_t refusal = fontrisc_parse(text, 7, tokens, 9, rows, 12, &at);
+    printf("%u %u;", (unsigned)refusal, (unsigned)at);
+    for (int i = 0; i < 10; i++) printf(" %u", (unsigned)rows[i]);
+    refusal = fontrisc_parse(text, 7, tokens, 12, rows, 12, &at);
+    printf("; %d %u", refusal == FONTRISC_END, (unsigned)at);
+    fontrisc_spelled(text, 7, tokens, 12, 3, &start, &length);
+    printf("; %u %u\n", (unsigned)start, (unsigned)length);
+    return 0;
+}
+"#;
+
+/// Compiles a C program with every warning on, and answers what it prints.
+fn run(source: &Path, name: &str) -> String {
+    let program = Path::new(env!("CARGO_TARGET_TMPDIR")).join(name);
+    let include = Path::new(env!("CARGO_MANIFEST_DIR")).join("../../include");
+    let library = Path::new(env!("FONTRISC_LIB_FOLDER")).join("libfontrisc.a");
+    let compiled = Command::new("cc")
+        .args(["-std=c99", "-pedantic", "-Wall", "-Wextra", "-Werror", "-I"])
+        .args([include.as_path(), source, library.as_path()])
+        .arg("-o")
+        .arg(&program)
+        .output()
+        .expect("`cc` links Rust programs, so it is there");
+    assert!(compiled.status.success(), "{}", String::from_utf8_lossy(&compiled.stderr));
+    let said = Command::new(&program).output().unwrap();
+    assert!(said.status.success());
+    String::from_utf8(said.stdout).unwrap()
+}
+
+#[test]
+fn a_c_program_gets_the_same_answers() {
+    let source = Path::new(env!("CARGO_TARGET_TMPDIR")).join("from_c.c");
+    std::fs::write(&source, PROGRAM).unwrap();
+    assert_eq!(run(&source, "from_c"), "0 3; 9 0 0 2 1 0 19 0 1 7; 1 4; 6 1\n");
+}
+
+/// The example of the repository.
+#[test]
+#[cfg(feature = "lookup")]
+fn the_example_runs() {
+    let source = Path::new(env!("CARGO_MANIFEST_DIR")).join("../../examples/filter.c");
+    let said = run(&source, "filter");
+    let lines: Vec<&str> = said.lines().collect();
+    assert_eq!(lines[..2], ["clause 0: row 2 row 5", "  a lookup on column 0: 'free' 'handover'"]);
+    assert_eq!(lines[2..], ["clause 1: NOT row 7", "  no lookup: every cell has to be asked"]);
+}
