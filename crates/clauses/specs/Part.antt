@@ -1,5 +1,5 @@
--- How the clauses of a row come about, as counting and listing have it: NOTs are followed to the first row that is none. No public promise names
--- this file.
+-- How the clauses of a row come about, as counting and listing have it: NOTs are followed to the first row that is none. No entry's promise
+-- names this file.
 use Prim.Native.Nat.{ℕ, zero, suc}
 use mathlib.Core.Bool.{Bool, not}
 use mathlib.Core.List.{List}

@@ -1,4 +1,4 @@
--- The size of a clause list, as counting has it: so many clauses and literals, or too many of either. No public promise names this file.
+-- The size of a clause list, as counting has it: so many clauses and literals, or too many of either. No entry's promise names this file.
 use Prim.Native.Nat.{ℕ, _+_, _*_, _≤_}
 use mathlib.Core.Bool.{Bool, true, false}
 use mathlib.Core.List.{List}

@@ -1,5 +1,5 @@
--- What the parts of a question's code promise each other: a clause's literals are met one after the other, and what they test is gathered. No public
--- promise names this file.
+-- What the parts of a question's code promise each other: a clause's literals are met one after the other, and what they test is gathered. No
+-- entry's promise names this file.
 use mathlib.Core.Path.{_≡_}
 use Prim.Native.Nat.{ℕ, _+_, _-_, _*_, _<_, _≤_, min}
 use mathlib.Core.Bool.{Bool, true, false}

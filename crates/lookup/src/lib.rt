@@ -11,10 +11,10 @@ use predicate::Checked;
 use tokens::refusal::Refusal;
 use value::Value;
 
-pub mod clause;
-pub mod counts;
-pub mod gather;
-pub mod test;
+mod clause;
+mod counts;
+mod gather;
+mod test;
 pub mod value;
 
 ghost use mathlib.Core.Path.{_≡_};

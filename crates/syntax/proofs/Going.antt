@@ -20,7 +20,7 @@ use Rattle.rows.specs.Layout.{capacity}
 use Rattle.rows.specs.declared.Row.{Row}
 use Rattle.syntax.specs.Operator.{among, binds, infixOf, prefixOf, postfixOf, startOf}
 use Rattle.syntax.specs.Rules.{needClose, needComma, needName, needNullOrNan}
-use Rattle.syntax.specs.Memory.{Out, done, refuse, Gives, then, past, put, while, fuel, Rec, missing, need, nullOrNan, postfix, postfixes, column, numeral, group, argument, arguments, named, atom, operand, infixed, infixes, level, expression}
+use Rattle.syntax.specs.Memory.{Out, done, refuse, Gives, then, past, put, while, fuel, Rec, missing, need, nullOrNan, postfix, postfixes, column, closed, numeral, group, argument, arguments, named, atom, operand, infixed, infixes, tail, level, expression}
 use Rattle.syntax.specs.declared.operator.Start.{Start}
 use Rattle.syntax.specs.declared.operator.Start.the-variants as start
 use Rattle.syntax.specs.declared.step.Cursor.{Cursor}
@@ -98,7 +98,11 @@ module _ (ts : List ℕ) where
       either (eqb (kindAt ts (c .at)) kind.exclamation) (λ e. put-some _ _ t)
       (λ e. either (eqb (kindAt ts (c .at + 1)) kind.NOT) (λ f. after (null-some (past 2 c) t some) (λ d u h. put-some _ d u)) (λ f. null-some (past 1 c) t some))
 
-  pub while-some : (more? : ℕ → Bool) (step : Cursor → List ℕ → Out) → ((c : Cursor) (t : List ℕ) → Some c → Holds Some (step c t)) →
+  pub closed-some : (k : ℕ) (c : Cursor) (t : List ℕ) → Some c → Holds Some (closed ts k c t)
+  unfolding closed
+  closed-some k c t some = either (eqb k kind.openParen) (λ e. need-some kind.closeParen needClose c t some) (λ e. put-some _ c t)
+
+  while-some : (more? : ℕ → Bool) (step : Cursor → List ℕ → Out) → ((c : Cursor) (t : List ℕ) → Some c → Holds Some (step c t)) →
       (turns : ℕ) (c : Cursor) (t : List ℕ) → Some c → Holds Some (while more? step turns c t)
   unfolding while
   while-some more? step goes zero c t some = record { told = some }
@@ -128,7 +132,7 @@ module _ (text ts : List ℕ) where
     arguments-some f n (suc turns) c t =
         either (eqb (kindAt ts (c .at)) kind.closeParen) (λ e. put-some _ _ t) (λ e. after (anything _) (λ d u h. arguments-some f (n + 1) turns d u))
 
-    atom-some : (s : Start) (c : Cursor) (t : List ℕ) → Holds Some (atom text ts rec s c t)
+    pub atom-some : (s : Start) (c : Cursor) (t : List ℕ) → Holds Some (atom text ts rec s c t)
     unfolding atom named group
     atom-some start.Nothing c t = gone
     atom-some start.Number c t = numeral-some (numberOf (spelled text ts (c .at))) c t
@@ -139,7 +143,7 @@ module _ (text ts : List ℕ) where
     atom-some (start.Plain kind x) c t = put-some _ _ t
     atom-some start.Other c t = gone
 
-    pub operand-some : (m : ℕ) (c : Cursor) (t : List ℕ) → Holds Some (operand text ts rec m c t)
+    operand-some : (m : ℕ) (c : Cursor) (t : List ℕ) → Holds Some (operand text ts rec m c t)
     unfolding operand
     operand-some m c t =
         either (binds (prefixOf (kindAt ts (c .at)) .precedence) m) (λ e. after (anything _) (λ d u h. put-some _ d u))
@@ -153,12 +157,14 @@ module _ (text ts : List ℕ) where
     unfolding infixes
     infixes-some m = while-some ts _ (infixed text ts rec) (λ c t h. infixed-some c t) (fuel ts)
 
+    pub tail-some : (m : ℕ) (c : Cursor) (t : List ℕ) → Some c → Holds Some (tail text ts rec m c t)
+    tail-some m c t some =
+        after (postfixes-some ts m c t some) λ c₁ t₁ h₁.
+        after (infixes-some m c₁ t₁ h₁) λ c₂ t₂ h₂. postfixes-some ts m c₂ t₂ h₂
+
     level-some : (m : ℕ) (c : Cursor) (t : List ℕ) → Holds Some (level text ts rec m c t)
     unfolding level
-    level-some m c t =
-        after (operand-some m c t) λ c₁ t₁ h₁.
-        after (postfixes-some ts m c₁ t₁ h₁) λ c₂ t₂ h₂.
-        after (infixes-some m c₂ t₂ h₂) λ c₃ t₃ h₃. postfixes-some ts m c₃ t₃ h₃
+    level-some m c t = after (operand-some m c t) (tail-some m)
 
   pub expression-some : (levels m : ℕ) (c : Cursor) (t : List ℕ) → Holds Some (expression text ts levels m c t)
   unfolding expression
@@ -228,6 +234,11 @@ module _ (ts : List ℕ) where
   unfolding need
   need-goes k pos why c t =
       either (eqb (kindAt ts (c .at)) k) (λ e. stop ts _ (le-refl _) (omega (arith, kind-is (c .at) k pos (eqb-true _ k e)))) (λ e. missing-holds ts _ why (c .at))
+
+  pub closed-goes : (k : ℕ) (c : Cursor) (t : List ℕ) → c .at ≤ count ts → Holds (Moves ts (c .at)) (closed ts k c t)
+  unfolding closed
+  closed-goes k c t inside =
+      either (eqb k kind.openParen) (λ e. less _ (omega arith) (need-goes kind.closeParen (omega arith) needClose c t)) (λ e. put-goes _ c t inside)
 
   null-goes : (c : Cursor) (t : List ℕ) → Holds (Moves ts (c .at + 1)) (nullOrNan ts c t)
   unfolding nullOrNan
@@ -301,7 +312,7 @@ module _ (text ts : List ℕ) where
     atom-goes start.Other c t lt = gone
 
     -- an atom at the end of the tokens is refused
-    atom-ends : (c : Cursor) (t : List ℕ) → c .at ≤ count ts → Holds (Moves ts (c .at + 1)) (atom text ts rec (startOf (kindAt ts (c .at))) c t)
+    pub atom-ends : (c : Cursor) (t : List ℕ) → c .at ≤ count ts → Holds (Moves ts (c .at + 1)) (atom text ts rec (startOf (kindAt ts (c .at))) c t)
     unfolding startOf among atom
     atom-ends c t inside = by (eqb (kindAt ts (c .at)) 0) refl
       where
@@ -309,7 +320,7 @@ module _ (text ts : List ℕ) where
         by true e = rw (eqb-true (kindAt ts (c .at)) 0 e) gone
         by false e = atom-goes (startOf (kindAt ts (c .at))) c t (kind-in ts (c .at) (eqb-false _ 0 e))
 
-    pub operand-goes : (m : ℕ) (c : Cursor) (t : List ℕ) → c .at ≤ count ts → Holds (Moves ts (c .at + 1)) (operand text ts rec m c t)
+    operand-goes : (m : ℕ) (c : Cursor) (t : List ℕ) → c .at ≤ count ts → Holds (Moves ts (c .at + 1)) (operand text ts rec m c t)
     unfolding operand
     operand-goes m c t inside =
         either (binds (prefixOf (kindAt ts (c .at)) .precedence) m)
@@ -324,13 +335,15 @@ module _ (text ts : List ℕ) where
     unfolding infixes
     infixes-goes m = while-goes ts _ (infixed text ts rec) (λ c t e. infixed-goes c t (infix-in ts _ m e)) (fuel ts)
 
+    pub tail-goes : (m : ℕ) (c : Cursor) (t : List ℕ) → c .at ≤ count ts → Holds (Moves ts (c .at)) (tail text ts rec m c t)
+    tail-goes m c t inside =
+        after (postfixes-goes ts m c t inside) λ c₁ t₁ m₁.
+        after (infixes-goes m c₁ t₁ (m₁ .within)) λ c₂ t₂ m₂.
+        less _ (omega (arith, m₁ .least, m₂ .least)) (postfixes-goes ts m c₂ t₂ (m₂ .within))
+
     level-goes : (m : ℕ) (c : Cursor) (t : List ℕ) → c .at ≤ count ts → Holds (Moves ts (c .at + 1)) (level text ts rec m c t)
     unfolding level
-    level-goes m c t inside =
-        after (operand-goes m c t inside) λ c₁ t₁ m₁.
-        after (postfixes-goes ts m c₁ t₁ (m₁ .within)) λ c₂ t₂ m₂.
-        after (infixes-goes m c₂ t₂ (m₂ .within)) λ c₃ t₃ m₃.
-        less _ (omega (arith, m₁ .least, m₂ .least, m₃ .least)) (postfixes-goes ts m c₃ t₃ (m₃ .within))
+    level-goes m c t inside = after (operand-goes m c t inside) (λ d u moved. less _ (moved .least) (tail-goes m d u (moved .within)))
 
   pub expression-goes : (levels m : ℕ) (c : Cursor) (t : List ℕ) → c .at ≤ count ts → Holds (Moves ts (c .at + 1)) (expression text ts levels m c t)
   unfolding expression

@@ -2,6 +2,7 @@
 pub mod Among
 pub mod Steps
 pub mod Going
+pub mod Openings
 pub mod Laid
 pub mod Trees
 pub mod Promised

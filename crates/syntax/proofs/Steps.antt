@@ -12,14 +12,14 @@ use lib.Seq.{sets}
 use Rattle.tokens.specs.Kind as kind
 use Rattle.tokens.specs.Token.{count, kindAt}
 use Rattle.tokens.specs.declared.refusal.Refusal.{Refusal}
-use Rattle.tokens.specs.declared.refusal.Refusal.the-variants.{End, LeftOver, TooDeep, NoRoom}
+use Rattle.tokens.specs.declared.refusal.Refusal.the-variants.{End, LeftOver, NoRoom}
 use Rattle.rows.specs.Layout.{width, numbers, capacity}
 use Rattle.rows.specs.declared.Row.{Row}
 use Rattle.syntax.specs.Kind as row
 use Rattle.syntax.specs.Operator.{binds, prefixOf, startOf}
 use Rattle.syntax.specs.Tree.{rowOf}
 use Rattle.syntax.specs.Rules.{needComma, needName, needNullOrNan}
-use Rattle.syntax.specs.Memory.{Out, done, refuse, Gives, then, past, put, leaf, over, while, fuel, Rec, missing, need, nullOrNan, postfix, column, argument, arguments, named, atom, operand, level, expression, finish}
+use Rattle.syntax.specs.Memory.{Out, done, refuse, Gives, then, past, put, leaf, over, while, fuel, Rec, missing, need, nullOrNan, postfix, column, argument, arguments, named, atom, operand, finish}
 use Rattle.syntax.specs.declared.operator.Start.{Start}
 use Rattle.syntax.specs.declared.step.Cursor.{Cursor}
 use Rattle.syntax.specs.declared.step.Step.{Step}
@@ -189,16 +189,6 @@ module _ (text ts : List ℕ) (rec : Rec) (c : Cursor) (t : List ℕ) where
   pub prefix-off : (m : ℕ) → binds (prefixOf (kindAt ts (c .at)) .precedence) m ≡ false → operand text ts rec m c t ≡ atom text ts rec (startOf (kindAt ts (c .at))) c t
   unfolding operand
   prefix-off m e = rw (e, operand)
-
--- the cases of `expression`
-module _ (text ts : List ℕ) (levels m : ℕ) (c : Cursor) (t : List ℕ) where
-  pub expression-none : levels ≡ 0 → expression text ts levels m c t ≡ refuse TooDeep (c .at)
-  unfolding expression
-  expression-none z = rw z
-
-  pub expression-level : (levels ≡ 0 → ⊥) → level text ts (expression text ts (levels - 1)) m c t ≡ expression text ts levels m c t
-  unfolding expression
-  expression-level some = ap (λ (n : ℕ). expression text ts n m c t) (one-less levels (omega arith))
 
 -- an atom, by what it starts with
 pub atom-by : (text ts : List ℕ) (rec : Rec) (c : Cursor) (t : List ℕ) {a b : Start} → a ≡ b → atom text ts rec a c t ≡ atom text ts rec b c t

@@ -1,5 +1,6 @@
 -- The reading rules with the row table passed along: what the inner functions promise. Rule by rule the text is that of Rules, with a row
--- written where that builds a tree; no public promise names this file.
+-- written where that builds a tree; and beside them `opened` and `closings`, by which a run of openings is read in a loop. No public promise
+-- names this file.
 use mathlib.Core.Path.{_≡_}
 use Prim.Native.Nat.{ℕ, zero, suc, _+_, _-_, _*_}
 use mathlib.Core.List.{List}
@@ -24,6 +25,7 @@ use Rattle.syntax.specs.Tree.{rowOf}
 use Rattle.syntax.specs.Rules.{needClose, needComma, needName, needNullOrNan}
 use Rattle.syntax.specs.declared.Parsed.{Parsed}
 use Rattle.syntax.specs.declared.Parsed.the-variants as A
+use Rattle.syntax.specs.declared.opening.Openings.{Openings}
 use Rattle.syntax.specs.declared.operator.Start.{Start}
 use Rattle.syntax.specs.declared.operator.Start.the-variants as start
 use Rattle.syntax.specs.declared.step.Cursor.{Cursor}
@@ -83,6 +85,10 @@ while more? step (suc turns) c t =
 abbrev pub fuel : List ℕ → ℕ
 fuel ts = suc (count ts)
 
+-- a token of kind k opens a level at the minimum m: a parenthesis, or a prefix operator
+unfoldable pub opens : ℕ → ℕ → Bool
+opens k m = elim (eqb k kind.openParen) [ true ↦ true | false ↦ binds (prefixOf k .precedence) m ]
+
 abbrev pub Rec : Type 0
 Rec = ℕ → Cursor → List ℕ → Out
 
@@ -120,6 +126,23 @@ module _ (ts : List ℕ) where
         | true ↦ then (need kind.ident needName (past 2 c) t) (put (rowOf row.qualified (c .at) (c .at + 2)))
         | false ↦ leaf row.column (c .at) c t
       ]
+
+  -- past the openings from token `at` on, each at the minimum that the one before it sets, while there are levels
+  unfoldable pub opened : ℕ → ℕ → ℕ → Openings
+  opened zero m at = record { at = at; left = 0 }
+  opened (suc levels) m at =
+      elim (opens (kindAt ts at) m) [
+        | false ↦ record { at = at; left = suc levels }
+        | true ↦ opened levels (prefixOf (kindAt ts at) .precedence) (at + 1)
+      ]
+
+  -- the minimum at token `at`, after openings from token `from` on that began at m
+  unfoldable pub minimum : ℕ → ℕ → ℕ → ℕ
+  minimum m from at = elim (leb at from) [ true ↦ m | false ↦ prefixOf (kindAt ts (at - 1)) .precedence ]
+
+  -- an opening of kind k is closed: by its parenthesis, or by the operator's row
+  unfoldable pub closed : ℕ → Cursor → List ℕ → Out
+  closed k c t = elim (eqb k kind.openParen) [ true ↦ need kind.closeParen needClose c t | false ↦ over (prefixOf k .row) 0 c t ]
 
   unfoldable pub finish : Cursor → List ℕ → Out
   finish c t = elim (ltb (c .at) (count ts)) [ true ↦ refuse LeftOver (c .at) | false ↦ done c t ]
@@ -172,13 +195,23 @@ module _ (text ts : List ℕ) where
     unfoldable pub infixes : ℕ → Cursor → List ℕ → Out
     infixes m = while (λ at. binds (infixOf (kindAt ts at) .precedence) m) infixed (fuel ts)
 
+    -- what follows the operand
+    abbrev pub tail : Rec
+    tail m c t = then (postfixes ts m c t) λ c t. then (infixes m c t) (postfixes ts m)
+
     unfoldable pub level : Rec
-    level m c t =
-        then (operand m c t) λ c t. then (postfixes ts m c t) λ c t. then (infixes m c t) (postfixes ts m)
+    level m c t = then (operand m c t) (tail m)
 
   unfoldable pub expression : ℕ → Rec
   expression zero m c t = refuse TooDeep (c .at)
   expression (suc levels) m c t = level (expression levels) m c t
+
+  -- the tail of what n openings from token `from` on have opened, at the level `rest`, and of each opening once it is closed, the last first
+  unfoldable pub closings : ℕ → ℕ → ℕ → ℕ → Cursor → List ℕ → Out
+  closings m from rest zero c t = tail (expression rest) m c t
+  closings m from rest (suc n) c t =
+      let k = kindAt ts (from + n) in
+      then (tail (expression rest) (prefixOf k .precedence) c t) λ c t. then (closed ts k c t) (closings m from (suc rest) n)
 
   unfoldable pub whole : ℕ → List ℕ → Out
   whole levels t = then (expression levels 0 (record { at = 0; rows = 0 }) t) (finish ts)

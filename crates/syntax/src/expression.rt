@@ -1,8 +1,12 @@
-// The reader at a minimum precedence, and the reader of atoms: each calls the other, with fewer levels left each time round.
+// The reader at a minimum precedence, and the reader of atoms: each calls the other, with fewer levels left each time round. A run of openings is
+// read in a loop, so `((a))` and `- - a` take no call for each.
 //
 // A call that stays a call in the compiled code is lent `&*text` and `&*tokens`: so the compiler keeps a slice's two halves apart, and reads take half
 // the time.
 use crate::kind as row;
+use crate::opening::closed;
+use crate::opening::minimum;
+use crate::opening::opened;
 use crate::operator;
 use crate::operator::Start;
 use crate::postfix::any_postfixes;
@@ -12,7 +16,6 @@ use crate::step::Cursor;
 use crate::step::Step;
 use crate::step::leaf;
 use crate::step::need;
-use crate::step::over;
 use crate::step::put;
 use rows::Row;
 use tokens::kind;
@@ -22,11 +25,12 @@ use tokens::refusal::Refusal;
 use tokens::table;
 use tokens::table::kind_at;
 ghost use mathlib.Core.Path.{_≡_};
-ghost use Prim.Native.Nat.{_≤_, _<_};
+ghost use Prim.Native.Nat.{_≤_, _<_, _+_, _-_, _^_};
+ghost use Rattle.tokens.specs.Kind.{openParen};
 ghost use Rattle.tokens.specs.Token.{count, kindAt, spelled};
 ghost use Rattle.tokens.specs.Number.{numberOf};
 ghost use Rattle.syntax.specs.Operator.{infixOf, binds, startOf};
-ghost use Rattle.syntax.specs.Memory.{Gives, numeral as numeralOf, column as columnOf, expression as expressionOf, operand as operandOf, atom as atomOf, group as groupOf, named as namedOf, arguments as argumentsOf, argument as argumentOf, infixes as infixesOf, infixed as infixedOf, fuel};
+ghost use Rattle.syntax.specs.Memory.{Gives, numeral as numeralOf, column as columnOf, expression as expressionOf, tail as tailOf, closings as closingsOf, atom as atomOf, named as namedOf, arguments as argumentsOf, argument as argumentOf, infixes as infixesOf, infixed as infixedOf, fuel};
 
 // A number.
 fn numeral(text: &[u8], tokens: &[u32], rows: &mut [u64], c: Cursor) -> Step
@@ -73,7 +77,7 @@ fn column(tokens: &[u32], rows: &mut [u64], c: Cursor) -> Step
     )
 }
 
-// An expression at the minimum `min`: one level.
+// An expression at the minimum `min`: past its openings, each a level, comes an atom; then what was opened goes on and is closed.
 pub fn expression(
     text: &[u8],
     tokens: &[u32],
@@ -85,60 +89,25 @@ pub fn expression(
     requires { ⌜ c .at ≤ count (now tokens) ⌝ }
     ensures { λ r. ⌜ Gives (expressionOf (now (text .entry)) (now (tokens .entry)) levels min c (now (rows .entry))) r (now (rows .exit)) ⌝ }
 {
-    let at = c.at;
-    if levels == 0 {
+    let from = c.at;
+    let n = c.rows;
+    let o = opened(tokens, from, levels, min);
+    let at = o.at;
+    let left = o.left;
+    if left == 0 {
         return Step::Refused(Refusal::TooDeep, at);
     }
-    let rest = levels - 1;
-    let first = operand(text, tokens, rows, c, rest, min);
-    let Step::Read(a) = first else {
-        return first;
-    };
-    let second = any_postfixes(tokens, rows, a, min);
-    let Step::Read(b) = second else {
-        return second;
-    };
-    let third = infixes(text, tokens, rows, b, rest, min);
-    let Step::Read(d) = third else {
-        return third;
-    };
-    let end = d.at;
-    if !postfix_at(tokens, end, min) {
-        return Step::Read(d);
-    }
-    postfixes(&*tokens, rows, d, min)
-}
-
-// A prefix operator of at least `min` with its operand, else an atom.
-fn operand(text: &[u8], tokens: &[u32], rows: &mut [u64], c: Cursor, rest: usize, min: u32) -> Step
-    requires { ⌜ c .at ≤ count (now tokens) ⌝ }
-    ensures { λ r. ⌜ Gives (operandOf (now (text .entry)) (now (tokens .entry)) (expressionOf (now (text .entry)) (now (tokens .entry)) rest) min c (now (rows .entry))) r (now (rows .exit)) ⌝ }
-{
-    let at = c.at;
-    let n = c.rows;
-    let k = kind_at(tokens, at);
-    let precedence = operator::prefix_of(k);
-    if !operator::binds(precedence, min) {
-        return atom(text, tokens, rows, c, rest);
-    }
-    let after = at + 1;
-    let s = expression(
-        &*text,
-        &*tokens,
-        rows,
-        Cursor { at: after, rows: n },
-        rest,
-        precedence,
-    );
-    let Step::Read(d) = s else {
+    let rest = left - 1;
+    let s = atom(text, tokens, rows, Cursor { at, rows: n }, rest);
+    let Step::Read(a) = s else {
         return s;
     };
-    over(rows, d, operator::prefix_row_of(k), 0)
+    closings(text, tokens, rows, a, rest, from, at, min)
 }
 
-// An atom.
+// An atom. No parenthesis opens here: that is an opening.
 fn atom(text: &[u8], tokens: &[u32], rows: &mut [u64], c: Cursor, rest: usize) -> Step
-    requires { ⌜ c .at ≤ count (now tokens) ⌝ }
+    requires { ⌜ (c .at ≤ count (now tokens)) × (kindAt (now tokens) (c .at) ≡ openParen → ⊥) ⌝ }
     ensures { λ r. ⌜ Gives (atomOf (now (text .entry)) (now (tokens .entry)) (expressionOf (now (text .entry)) (now (tokens .entry)) rest) (startOf (kindAt (now (tokens .entry)) (c .at))) c (now (rows .entry))) r (now (rows .exit)) ⌝ }
 {
     let at = c.at;
@@ -147,31 +116,65 @@ fn atom(text: &[u8], tokens: &[u32], rows: &mut [u64], c: Cursor, rest: usize) -
         Start::Number => numeral(text, tokens, rows, c),
         Start::Text => leaf(rows, c, row::STRING, at as u64),
         Start::Name => named(text, tokens, rows, c, rest),
-        Start::Paren => group(text, tokens, rows, c, rest),
         Start::Plain(kind, x) => leaf(rows, c, kind, x),
+        Start::Paren => Step::Refused(Refusal::NoAtom, at),
         Start::Other => Step::Refused(Refusal::NoAtom, at),
     }
 }
 
-// An expression in parentheses.
-fn group(text: &[u8], tokens: &[u32], rows: &mut [u64], c: Cursor, rest: usize) -> Step
-    requires { ⌜ c .at < count (now tokens) ⌝ }
-    ensures { λ r. ⌜ Gives (groupOf (now (text .entry)) (now (tokens .entry)) (expressionOf (now (text .entry)) (now (tokens .entry)) rest) c (now (rows .entry))) r (now (rows .exit)) ⌝ }
+// The tail of what was opened last, of tokens `from` to `end`, and the tail of each opening once it is closed.
+fn closings(
+    text: &[u8],
+    tokens: &[u32],
+    rows: &mut [u64],
+    start: Cursor,
+    innermost: usize,
+    from: usize,
+    end: usize,
+    min: u32,
+) -> Step
+    requires { ⌜ (start .at ≤ count (now tokens)) × (0 < start .rows) × (from ≤ end) × (innermost + (end - from) < 2 ^ 64) ⌝ }
+    ensures { λ r. ⌜ Gives (closingsOf (now (text .entry)) (now (tokens .entry)) min from innermost (end - from) start (now (rows .entry))) r (now (rows .exit)) ⌝ }
 {
-    let n = c.rows;
-    let after = c.at + 1;
-    let s = expression(
-        &*text,
-        &*tokens,
-        rows,
-        Cursor { at: after, rows: n },
-        rest,
-        0,
-    );
-    let Step::Read(d) = s else {
-        return s;
+    let mut c = start;
+    let mut at = end;
+    let mut rest = innermost;
+    loop {
+        let s = tail(text, tokens, rows, c, rest, minimum(tokens, from, at, min));
+        let Step::Read(d) = s else {
+            return s;
+        };
+        if at <= from {
+            return Step::Read(d);
+        }
+        at -= 1;
+        rest += 1;
+        let s = closed(tokens, rows, d, kind_at(tokens, at));
+        let Step::Read(next) = s else {
+            return s;
+        };
+        c = next;
+    }
+}
+
+// What follows an operand: postfix operators, infix operators, and postfix operators once more.
+fn tail(text: &[u8], tokens: &[u32], rows: &mut [u64], c: Cursor, rest: usize, min: u32) -> Step
+    requires { ⌜ (c .at ≤ count (now tokens)) × (0 < c .rows) ⌝ }
+    ensures { λ r. ⌜ Gives (tailOf (now (text .entry)) (now (tokens .entry)) (expressionOf (now (text .entry)) (now (tokens .entry)) rest) min c (now (rows .entry))) r (now (rows .exit)) ⌝ }
+{
+    let first = any_postfixes(tokens, rows, c, min);
+    let Step::Read(a) = first else {
+        return first;
     };
-    need(tokens, d, kind::CLOSE_PAREN, Refusal::WrongToken)
+    let second = infixes(text, tokens, rows, a, rest, min);
+    let Step::Read(b) = second else {
+        return second;
+    };
+    let end = b.at;
+    if !postfix_at(tokens, end, min) {
+        return Step::Read(b);
+    }
+    postfixes(&*tokens, rows, b, min)
 }
 
 // A name: a function, where a parenthesis opens after it, else a column.

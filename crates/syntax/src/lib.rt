@@ -6,6 +6,7 @@
 // 2, 3, 2, ^, ^, 4, 3, *, -.
 mod expression;
 pub mod kind;
+mod opening;
 mod operator;
 mod postfix;
 mod step;

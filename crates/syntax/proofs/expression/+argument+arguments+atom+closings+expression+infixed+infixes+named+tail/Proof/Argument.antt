@@ -6,11 +6,11 @@ use borrow.Author.Needs.{needs}
 use native.Mathlib.Omega.{arith}
 use mathlib.Core.Path.{sym, _∙_}
 use Prim.Native.Nat.{ℕ, _-_}
-use Rattle.syntax.proofs.expression.+argument+arguments+atom+expression+group+infixed+infixes+named+operand.Proof.Measures.{argument-at, expression-below}
+use Rattle.syntax.proofs.expression.+argument+arguments+atom+closings+expression+infixed+infixes+named+tail.Proof.Measures.{argument-at, expression-below}
 use Rattle.syntax.proofs.expression.argument.Reads as argument
 use Rattle.syntax.proofs.expression.expression.Reads as expression
 use Rattle.syntax.proofs.step.need.Reads as need-reads
-use Rattle.syntax.proofs.expression.+argument+arguments+atom+expression+group+infixed+infixes+named+operand.Lts-argument as argument-lts
+use Rattle.syntax.proofs.expression.+argument+arguments+atom+closings+expression+infixed+infixes+named+tail.Lts-argument as argument-lts
 
 -- what is known of the functions that it calls
 abbrev calls : ℕ → argument-lts.Claims

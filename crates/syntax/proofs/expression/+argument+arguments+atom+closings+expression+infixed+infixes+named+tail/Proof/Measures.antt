@@ -1,26 +1,26 @@
 -- The measures of the cycle: the levels left, and a rank of each member below its callers' at the same level.
 -- Assumes nothing.
-use Prim.Native.Nat.{ℕ, _+_, _*_, _<_}
+use Prim.Native.Nat.{ℕ, _+_, _-_, _*_, _<_}
 use borrow.Fn.Kinds.{In}
 use borrow.Fn.PlainCycle.{Measures, is, falls, and}
 use Rattle.syntax.proofs.expression.argument.Reads as argument
 use Rattle.syntax.proofs.expression.arguments.Reads as arguments
 use Rattle.syntax.proofs.expression.atom.Reads as atom
+use Rattle.syntax.proofs.expression.closings.Reads as closings
 use Rattle.syntax.proofs.expression.expression.Reads as expression
-use Rattle.syntax.proofs.expression.group.Reads as group
 use Rattle.syntax.proofs.expression.infixed.Reads as infixed
 use Rattle.syntax.proofs.expression.infixes.Reads as infixes
 use Rattle.syntax.proofs.expression.named.Reads as named
-use Rattle.syntax.proofs.expression.operand.Reads as operand
+use Rattle.syntax.proofs.expression.tail.Reads as tail
 use Rattle.syntax.proofs.expression.argument.Kinds as argument-kinds
 use Rattle.syntax.proofs.expression.arguments.Kinds as arguments-kinds
 use Rattle.syntax.proofs.expression.atom.Kinds as atom-kinds
+use Rattle.syntax.proofs.expression.closings.Kinds as closings-kinds
 use Rattle.syntax.proofs.expression.expression.Kinds as expression-kinds
-use Rattle.syntax.proofs.expression.group.Kinds as group-kinds
 use Rattle.syntax.proofs.expression.infixed.Kinds as infixed-kinds
 use Rattle.syntax.proofs.expression.infixes.Kinds as infixes-kinds
 use Rattle.syntax.proofs.expression.named.Kinds as named-kinds
-use Rattle.syntax.proofs.expression.operand.Kinds as operand-kinds
+use Rattle.syntax.proofs.expression.tail.Kinds as tail-kinds
 
 abbrev pub μ-argument : Measures 3 argument-kinds.ps ℕ
 μ-argument κs a = 8 * a .1 .1 .1 .1 .0 + 3
@@ -31,23 +31,23 @@ abbrev pub μ-arguments : Measures 3 arguments-kinds.ps ℕ
 abbrev pub μ-atom : Measures 3 atom-kinds.ps ℕ
 μ-atom κs a = 8 * a .1 .1 .1 .1 .0 + 6
 
+abbrev pub μ-closings : Measures 3 closings-kinds.ps ℕ
+μ-closings κs a = 8 * (a .1 .1 .1 .1 .0 + (a .1 .1 .1 .1 .1 .1 .0 - a .1 .1 .1 .1 .1 .0)) + 4
+
 abbrev pub μ-expression : Measures 3 expression-kinds.ps ℕ
 μ-expression κs a = 8 * a .1 .1 .1 .1 .0
 
-abbrev pub μ-group : Measures 3 group-kinds.ps ℕ
-μ-group κs a = 8 * a .1 .1 .1 .1 .0 + 5
-
 abbrev pub μ-infixed : Measures 3 infixed-kinds.ps ℕ
-μ-infixed κs a = 8 * a .1 .1 .1 .1 .0 + 6
+μ-infixed κs a = 8 * a .1 .1 .1 .1 .0 + 1
 
 abbrev pub μ-infixes : Measures 3 infixes-kinds.ps ℕ
-μ-infixes κs a = 8 * a .1 .1 .1 .1 .0 + 7
+μ-infixes κs a = 8 * a .1 .1 .1 .1 .0 + 2
 
 abbrev pub μ-named : Measures 3 named-kinds.ps ℕ
 μ-named κs a = 8 * a .1 .1 .1 .1 .0 + 5
 
-abbrev pub μ-operand : Measures 3 operand-kinds.ps ℕ
-μ-operand κs a = 8 * a .1 .1 .1 .1 .0 + 7
+abbrev pub μ-tail : Measures 3 tail-kinds.ps ℕ
+μ-tail κs a = 8 * a .1 .1 .1 .1 .0 + 3
 
 abbrev pub argument-at : ℕ → In 3 argument-kinds.ps
 argument-at t = and 3 argument-kinds.ps (is 3 argument-kinds.ps μ-argument t) argument.Pre
@@ -69,6 +69,13 @@ atom-at t = and 3 atom-kinds.ps (is 3 atom-kinds.ps μ-atom t) atom.Pre
 abbrev pub atom-below : ℕ → In 3 atom-kinds.ps
 atom-below t = and 3 atom-kinds.ps (falls 3 atom-kinds.ps _<_ μ-atom t) atom.Pre
 
+abbrev pub closings-at : ℕ → In 3 closings-kinds.ps
+closings-at t = and 3 closings-kinds.ps (is 3 closings-kinds.ps μ-closings t) closings.Pre
+
+abbrev pub closings-below : ℕ → In 3 closings-kinds.ps
+closings-below t =
+    and 3 closings-kinds.ps (falls 3 closings-kinds.ps _<_ μ-closings t) closings.Pre
+
 abbrev pub expression-at : ℕ → In 3 expression-kinds.ps
 expression-at t =
     and 3 expression-kinds.ps (is 3 expression-kinds.ps μ-expression t) expression.Pre
@@ -76,12 +83,6 @@ expression-at t =
 abbrev pub expression-below : ℕ → In 3 expression-kinds.ps
 expression-below t =
     and 3 expression-kinds.ps (falls 3 expression-kinds.ps _<_ μ-expression t) expression.Pre
-
-abbrev pub group-at : ℕ → In 3 group-kinds.ps
-group-at t = and 3 group-kinds.ps (is 3 group-kinds.ps μ-group t) group.Pre
-
-abbrev pub group-below : ℕ → In 3 group-kinds.ps
-group-below t = and 3 group-kinds.ps (falls 3 group-kinds.ps _<_ μ-group t) group.Pre
 
 abbrev pub infixed-at : ℕ → In 3 infixed-kinds.ps
 infixed-at t = and 3 infixed-kinds.ps (is 3 infixed-kinds.ps μ-infixed t) infixed.Pre
@@ -101,8 +102,8 @@ named-at t = and 3 named-kinds.ps (is 3 named-kinds.ps μ-named t) named.Pre
 abbrev pub named-below : ℕ → In 3 named-kinds.ps
 named-below t = and 3 named-kinds.ps (falls 3 named-kinds.ps _<_ μ-named t) named.Pre
 
-abbrev pub operand-at : ℕ → In 3 operand-kinds.ps
-operand-at t = and 3 operand-kinds.ps (is 3 operand-kinds.ps μ-operand t) operand.Pre
+abbrev pub tail-at : ℕ → In 3 tail-kinds.ps
+tail-at t = and 3 tail-kinds.ps (is 3 tail-kinds.ps μ-tail t) tail.Pre
 
-abbrev pub operand-below : ℕ → In 3 operand-kinds.ps
-operand-below t = and 3 operand-kinds.ps (falls 3 operand-kinds.ps _<_ μ-operand t) operand.Pre
+abbrev pub tail-below : ℕ → In 3 tail-kinds.ps
+tail-below t = and 3 tail-kinds.ps (falls 3 tail-kinds.ps _<_ μ-tail t) tail.Pre

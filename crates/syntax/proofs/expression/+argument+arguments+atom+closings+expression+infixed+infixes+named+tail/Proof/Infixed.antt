@@ -11,14 +11,14 @@ use borrow.Author.Needs.{needs}
 use native.Mathlib.Omega.{arith}
 use mathlib.Core.Path.{refl, sym}
 use Prim.Native.Nat.{ℕ, _-_}
-use Rattle.syntax.proofs.expression.+argument+arguments+atom+expression+group+infixed+infixes+named+operand.Proof.Measures.{expression-below, infixed-at}
+use Rattle.syntax.proofs.expression.+argument+arguments+atom+closings+expression+infixed+infixes+named+tail.Proof.Measures.{expression-below, infixed-at}
 use Rattle.syntax.proofs.expression.expression.Reads as expression
 use Rattle.syntax.proofs.expression.infixed.Reads as infixed
 use Rattle.syntax.proofs.operator.right_of.Reads as right-of-reads
 use Rattle.syntax.proofs.operator.row_of.Reads as row-of-reads
 use Rattle.syntax.proofs.step.put.Reads as put-reads
 use Rattle.tokens.proofs.table.kind_at.Reads as kind-at-reads
-use Rattle.syntax.proofs.expression.+argument+arguments+atom+expression+group+infixed+infixes+named+operand.Lts-infixed as infixed-lts
+use Rattle.syntax.proofs.expression.+argument+arguments+atom+closings+expression+infixed+infixes+named+tail.Lts-infixed as infixed-lts
 
 -- what is known of the functions that it calls
 abbrev calls : ℕ → infixed-lts.Claims
