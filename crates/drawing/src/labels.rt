@@ -5,10 +5,10 @@ use crate::out::bits;
 use crate::out::decimal;
 use crate::out::put;
 use crate::out::quoted;
+use grammar::kind;
 use lookup::value;
 use lookup::value::Value;
 use rows::Row;
-use syntax::kind;
 use tokens::table::spelled;
 
 fn truth(yes: bool) {

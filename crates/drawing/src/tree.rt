@@ -8,8 +8,8 @@ use crate::out::indent;
 use crate::out::place;
 use crate::out::put;
 use form::scan::one_more;
+use grammar::kind;
 use rows::Row;
-use syntax::kind;
 ghost use mathlib.Core.Path.{_≡_};
 ghost use lib.ListN.{length};
 

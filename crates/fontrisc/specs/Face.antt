@@ -6,7 +6,7 @@ use mathlib.Core.List.{List}
 use Rattle.tokens.specs.Refusal.{numberOf}
 use Rattle.rows.specs.declared.Row.{Row}
 use Rattle.predicate.specs.Read.{readRows}
-use Rattle.syntax.specs.Rules.{levelMax}
+use Rattle.grammar.specs.Rules.{levelMax}
 use Rattle.syntax.specs.Promise.{Parses}
 use Rattle.syntax.specs.declared.Parsed.{Parsed}
 use Rattle.syntax.specs.declared.Parsed.the-variants as parsed

@@ -11,12 +11,12 @@ use Rattle.tokens.specs.Token.{count, kindAt, spelled}
 use Rattle.tokens.specs.Number.{numberOf}
 use Rattle.tokens.specs.declared.number.Number.{Number}
 use Rattle.tokens.specs.declared.number.Number.the-variants.{Integer, Float, Neither}
-use Rattle.syntax.specs.Kind as row
-use Rattle.syntax.specs.Operator.{binds, infixOf, rightOf, prefixOf, startOf}
-use Rattle.syntax.specs.Tree.{Tree, leaf, unary, binary, call, Trees, none, more, size, sizes}
-use Rattle.syntax.specs.Rules.{Reading, done, Reader, while, due, nullOrNan, postfix, postfixes, numeral, column, group, argument, arguments, named, atom, operand, infixed, infixes, level, expression, finish, whole, needClose, needComma, needName, needNullOrNan}
-use Rattle.syntax.specs.declared.operator.Start.{Start}
-use Rattle.syntax.specs.declared.operator.Start.the-variants as start
+use Rattle.grammar.specs.Kind as row
+use Rattle.grammar.specs.Operator.{binds, infixOf, rightOf, prefixOf, startOf}
+use Rattle.grammar.specs.Tree.{Tree, leaf, unary, binary, call, Trees, none, more, size, sizes}
+use Rattle.grammar.specs.Rules.{Reading, done, Reader, while, due, nullOrNan, postfix, postfixes, numeral, column, group, argument, arguments, named, atom, operand, infixed, infixes, level, expression, finish, whole, needClose, needComma, needName, needNullOrNan}
+use Rattle.grammar.specs.declared.operator.Start.{Start}
+use Rattle.grammar.specs.declared.operator.Start.the-variants as start
 use Rattle.syntax.proofs.Onward.{Holds, gone, after, either, need-holds}
 
 -- n rows were due before the tree x

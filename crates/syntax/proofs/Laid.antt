@@ -15,11 +15,11 @@ use Rattle.tokens.specs.declared.refusal.Refusal.the-variants.{NoRoom}
 use Rattle.rows.specs.Layout.{width, numbers, capacity}
 use Rattle.rows.specs.declared.Row.{Row}
 use Rattle.rows.proofs.Laws.{capacity-sets, follows}
-use Rattle.syntax.specs.Tree.{Tree, leaf, unary, binary, call, Trees, none, more, size, sizes, rowsOf, rowsAll}
-use Rattle.syntax.specs.Rules.{Reading, _>>=_, due}
-use Rattle.syntax.specs.Rules as T
-use Rattle.syntax.specs.Memory.{Out, done, refuse, then, put}
-use Rattle.syntax.specs.declared.step.Cursor.{Cursor}
+use Rattle.grammar.specs.Tree.{Tree, leaf, unary, binary, call, Trees, none, more, size, sizes, rowsOf, rowsAll}
+use Rattle.grammar.specs.Rules.{Reading, _>>=_, due}
+use Rattle.grammar.specs.Rules as T
+use Rattle.grammar.specs.Memory.{Out, done, refuse, then, put}
+use Rattle.grammar.specs.declared.step.Cursor.{Cursor}
 
 -- a tree's rows have `width` numbers each
 mutual

@@ -1,8 +1,4 @@
 -- Laws of the definitions, that the functions' proofs cite, and the theorems about reading.
-pub mod Among
-pub mod Steps
-pub mod Going
-pub mod Openings
 pub mod Laid
 pub mod Trees
 pub mod Promised

@@ -13,12 +13,12 @@ use Rattle.tokens.specs.Number.{numberOf}
 use Rattle.tokens.specs.declared.number.Number.{Number}
 use Rattle.tokens.specs.declared.number.Number.the-variants.{Integer, Float, Neither}
 use Rattle.tokens.specs.declared.refusal.Refusal.{Refusal}
-use Rattle.syntax.specs.Kind as row
-use Rattle.syntax.specs.Operator.{binds, infixOf, rightOf, prefixOf, startOf}
-use Rattle.syntax.specs.Tree.{Tree, unary, binary, Trees, none, more}
-use Rattle.syntax.specs.Rules.{Reading, done, refuse, _>>=_, Reader, while, due, missing, need, nullOrNan, postfix, postfixes, numeral, column, group, argument, arguments, named, atom, operand, infixed, infixes, level, expression, needClose, needComma, needName, needNullOrNan}
-use Rattle.syntax.specs.declared.operator.Start.{Start}
-use Rattle.syntax.specs.declared.operator.Start.the-variants as start
+use Rattle.grammar.specs.Kind as row
+use Rattle.grammar.specs.Operator.{binds, infixOf, rightOf, prefixOf, startOf}
+use Rattle.grammar.specs.Tree.{Tree, unary, binary, Trees, none, more}
+use Rattle.grammar.specs.Rules.{Reading, done, refuse, _>>=_, Reader, while, due, missing, need, nullOrNan, postfix, postfixes, numeral, column, group, argument, arguments, named, atom, operand, infixed, infixes, level, expression, needClose, needComma, needName, needNullOrNan}
+use Rattle.grammar.specs.declared.operator.Start.{Start}
+use Rattle.grammar.specs.declared.operator.Start.the-variants as start
 
 pub by-cases : {P : Type 0} (b : Bool) → (b ≡ true → P) → (b ≡ false → P) → P
 by-cases true f g = f refl

@@ -13,16 +13,17 @@ use Rattle.tokens.specs.declared.table.Checked.{Checked}
 use Rattle.tokens.specs.declared.table.Checked.the-variants as table
 use Rattle.rows.specs.Layout.{width, capacity}
 use Rattle.rows.proofs.Laws.{laid-out, capacity-count}
-use Rattle.syntax.specs.Tree.{size, rowsOf}
-use Rattle.syntax.specs.Rules.{Reading}
-use Rattle.syntax.specs.Rules as T
-use Rattle.syntax.specs.Memory.{Out, done, refuse, Gives, whole, checked, Emptied}
+use Rattle.grammar.specs.Tree.{size, rowsOf}
+use Rattle.grammar.specs.Rules.{Reading}
+use Rattle.grammar.specs.Rules as T
+use Rattle.grammar.specs.Memory.{Out, done, refuse, Gives, whole}
+use Rattle.syntax.specs.Inner.{checked, Emptied}
 use Rattle.syntax.specs.Promise.{after, parsing, Says, Parses}
 use Rattle.syntax.specs.declared.Parsed.{Parsed}
 use Rattle.syntax.specs.declared.Parsed.the-variants as A
-use Rattle.syntax.specs.declared.step.Cursor.{Cursor}
-use Rattle.syntax.specs.declared.step.Step.{Step}
-use Rattle.syntax.specs.declared.step.Step.the-variants.{Read, Refused}
+use Rattle.grammar.specs.declared.step.Cursor.{Cursor}
+use Rattle.grammar.specs.declared.step.Step.{Step}
+use Rattle.grammar.specs.declared.step.Step.the-variants.{Read, Refused}
 use Rattle.syntax.proofs.Laid.{length-rows, cursor, Laid, gone}
 use Rattle.syntax.proofs.Trees.{whole-laid}
 

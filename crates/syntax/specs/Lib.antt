@@ -1,9 +1,5 @@
--- What the contracts of `syntax` say, as definitions. Kind and Tree: what is read. Operator and Rules: how. Promise: what `parse` answers.
--- Memory is the same rules for the inner functions, with the row table passed along. Whole: rows read back.
-pub mod Kind
-pub mod Tree
-pub mod Operator
-pub mod Rules
+-- What the contracts of `syntax` say, as definitions. Promise: what `parse` answers, by the rules of `grammar`. Inner: what its parts promise each
+-- other. Whole: rows read back.
 pub mod Promise
-pub mod Memory
+pub mod Inner
 pub mod Whole

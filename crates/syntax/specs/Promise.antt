@@ -7,8 +7,8 @@ use Rattle.tokens.specs.Token.{checkTable}
 use Rattle.tokens.specs.declared.table.Checked.{Checked}
 use Rattle.tokens.specs.declared.table.Checked.the-variants as table
 use Rattle.rows.specs.Layout.{width, capacity}
-use Rattle.syntax.specs.Tree.{size, rowsOf}
-use Rattle.syntax.specs.Rules.{Reading, done, refuse, whole}
+use Rattle.grammar.specs.Tree.{size, rowsOf}
+use Rattle.grammar.specs.Rules.{Reading, done, refuse, whole}
 use Rattle.syntax.specs.declared.Parsed.{Parsed}
 use Rattle.syntax.specs.declared.Parsed.the-variants.{Rows, Refused}
 

@@ -3,79 +3,32 @@
 //
 // A call that stays a call in the compiled code is lent `&*text` and `&*tokens`: so the compiler keeps a slice's two halves apart, and reads take half
 // the time.
-use crate::kind as row;
-use crate::opening::closed;
-use crate::opening::minimum;
-use crate::opening::opened;
-use crate::operator;
-use crate::operator::Start;
-use crate::postfix::any_postfixes;
-use crate::postfix::postfix_at;
-use crate::postfix::postfixes;
-use crate::step::Cursor;
-use crate::step::Step;
-use crate::step::leaf;
-use crate::step::need;
-use crate::step::put;
+use grammar::kind as row;
+use grammar::leaf::column;
+use grammar::leaf::numeral;
+use grammar::opening::closed;
+use grammar::opening::minimum;
+use grammar::opening::opened;
+use grammar::operator;
+use grammar::operator::Start;
+use grammar::postfix::any_postfixes;
+use grammar::postfix::postfix_at;
+use grammar::postfix::postfixes;
+use grammar::step::Cursor;
+use grammar::step::Step;
+use grammar::step::leaf;
+use grammar::step::need;
+use grammar::step::put;
 use rows::Row;
 use tokens::kind;
-use tokens::number;
-use tokens::number::Number;
 use tokens::refusal::Refusal;
-use tokens::table;
 use tokens::table::kind_at;
 ghost use mathlib.Core.Path.{_≡_};
 ghost use Prim.Native.Nat.{_≤_, _<_, _+_, _-_, _^_};
 ghost use Rattle.tokens.specs.Kind.{openParen};
-ghost use Rattle.tokens.specs.Token.{count, kindAt, spelled};
-ghost use Rattle.tokens.specs.Number.{numberOf};
-ghost use Rattle.syntax.specs.Operator.{infixOf, binds, startOf};
-ghost use Rattle.syntax.specs.Memory.{Gives, numeral as numeralOf, column as columnOf, expression as expressionOf, tail as tailOf, closings as closingsOf, atom as atomOf, named as namedOf, arguments as argumentsOf, argument as argumentOf, infixes as infixesOf, infixed as infixedOf, fuel};
-
-// A number.
-fn numeral(text: &[u8], tokens: &[u32], rows: &mut [u64], c: Cursor) -> Step
-    requires { ⌜ c .at < count (now tokens) ⌝ }
-    ensures { λ r. ⌜ Gives (numeralOf (numberOf (spelled (now (text .entry)) (now (tokens .entry)) (c .at))) c (now (rows .entry))) r (now (rows .exit)) ⌝ }
-{
-    let at = c.at;
-    match number::number_of(table::spelled(text, tokens, at)) {
-        Number::Integer(n) => leaf(rows, c, row::INTEGER, n),
-        Number::Float => leaf(rows, c, row::FLOAT, at as u64),
-        Number::Neither => Step::Refused(Refusal::BadNumber, at),
-    }
-}
-
-// A column: name.name or name.
-fn column(tokens: &[u32], rows: &mut [u64], c: Cursor) -> Step
-    requires { ⌜ c .at < count (now tokens) ⌝ }
-    ensures { λ r. ⌜ Gives (columnOf (now (tokens .entry)) c (now (rows .entry))) r (now (rows .exit)) ⌝ }
-{
-    let at = c.at;
-    let n = c.rows;
-    let after = at + 1;
-    if kind_at(tokens, after) != kind::PERIOD {
-        return leaf(rows, c, row::COLUMN, at as u64);
-    }
-    let name = at + 2;
-    let s = need(
-        tokens,
-        Cursor { at: name, rows: n },
-        kind::IDENT,
-        Refusal::WrongToken,
-    );
-    let Step::Read(d) = s else {
-        return s;
-    };
-    put(
-        rows,
-        d,
-        Row {
-            kind: row::QUALIFIED,
-            x: at as u64,
-            y: name as u64,
-        },
-    )
-}
+ghost use Rattle.tokens.specs.Token.{count, kindAt};
+ghost use Rattle.grammar.specs.Operator.{infixOf, binds, startOf};
+ghost use Rattle.grammar.specs.Memory.{Gives, expression as expressionOf, tail as tailOf, closings as closingsOf, atom as atomOf, named as namedOf, arguments as argumentsOf, argument as argumentOf, infixes as infixesOf, infixed as infixedOf, fuel};
 
 // An expression at the minimum `min`: past its openings, each a level, comes an atom; then what was opened goes on and is closed.
 pub fn expression(

@@ -5,21 +5,17 @@
 // with a right side at 7: `4 * 3`, since `*` has 7. Each tree's row is written once its operands stand before it, so the rows come out in post-order:
 // 2, 3, 2, ^, ^, 4, 3, *, -.
 mod expression;
-pub mod kind;
-mod opening;
-mod operator;
-mod postfix;
-mod step;
 
-use step::Cursor;
-use step::Step;
+use grammar::step::Cursor;
+use grammar::step::Step;
 use tokens::refusal::Refusal;
 use tokens::table;
 use tokens::table::Checked;
 ghost use mathlib.Core.Path.{_≡_};
 ghost use Rattle.tokens.specs.Token.{checkTable};
-ghost use Rattle.syntax.specs.Rules.{levelMax};
-ghost use Rattle.syntax.specs.Memory.{Gives, whole as wholeOf, checked as checkedOf, Emptied};
+ghost use Rattle.grammar.specs.Rules.{levelMax};
+ghost use Rattle.grammar.specs.Memory.{Gives, whole as wholeOf};
+ghost use Rattle.syntax.specs.Inner.{checked as checkedOf, Emptied};
 ghost use Rattle.syntax.specs.Promise.{Parses};
 
 // How many levels a reading may have.

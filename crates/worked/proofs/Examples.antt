@@ -6,9 +6,9 @@ use mathlib.Core.List.{List, map}
 use Rattle.worked.specs.Table.{cases}
 use Rattle.worked.specs.Said as said
 use Rattle.syntax.specs.Promise as promise
-use Rattle.syntax.specs.Rules as rules
-use Rattle.syntax.specs.Operator as operator
-use Rattle.syntax.specs.Tree as syntax
+use Rattle.grammar.specs.Rules as rules
+use Rattle.grammar.specs.Operator as operator
+use Rattle.grammar.specs.Tree as syntax
 use Rattle.tokens.specs.Token as token
 use Rattle.tokens.specs.Number as number
 use Rattle.rows.specs.Whole as whole

@@ -7,8 +7,8 @@ use Rattle.tokens.specs.Limits.{rowsMax}
 use Rattle.tokens.specs.Refusal.{numberOf}
 use Rattle.rows.specs.declared.Row.{Row}
 use Rattle.rows.specs.Layout.{numbers}
-use Rattle.syntax.specs.Tree.{rowsOf}
-use Rattle.syntax.specs.Rules as rules
+use Rattle.grammar.specs.Tree.{rowsOf}
+use Rattle.grammar.specs.Rules as rules
 use Rattle.syntax.specs.Promise.{parsing}
 use Rattle.predicate.specs.Read.{Reading, one, refused, readRows}
 use Rattle.clauses.specs.Clause as clause

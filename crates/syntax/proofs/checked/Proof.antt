@@ -2,8 +2,9 @@
 -- Assumes nothing.
 use mathlib.Core.Path.{sym, ap, _∙_}
 use Rattle.tokens.specs.declared.table.Checked.{Checked}
-use Rattle.syntax.specs.Memory.{whole, checked}
-use Rattle.syntax.proofs.Steps.{same-as, ends}
+use Rattle.grammar.specs.Memory.{whole}
+use Rattle.syntax.specs.Inner.{checked}
+use Rattle.grammar.proofs.Steps.{same-as, ends}
 use borrow.Author.Needs.{needs}
 use Rattle.syntax.proofs.checked.Statement.{statement}
 use Rattle.syntax.proofs.checked.Tie as tie

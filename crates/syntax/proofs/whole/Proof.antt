@@ -1,8 +1,8 @@
 -- `whole` meets its contract: the expression, and then whether tokens are left.
 -- Assumes nothing.
 use mathlib.Core.Path.{refl, _∙_}
-use Rattle.syntax.specs.Memory.{whole}
-use Rattle.syntax.proofs.Steps.{on, refused, ends, stays, finish-over, finish-done}
+use Rattle.grammar.specs.Memory.{whole}
+use Rattle.grammar.proofs.Steps.{on, refused, ends, stays, finish-over, finish-done}
 use borrow.Author.Needs.{needs}
 use Rattle.syntax.proofs.whole.Statement.{statement}
 use Rattle.syntax.proofs.whole.Tie as tie

@@ -2,7 +2,7 @@
 -- Assumes nothing.
 use mathlib.Core.Path.{ap, _∙_}
 use Prim.Native.Nat.{ℕ}
-use Rattle.syntax.specs.Operator.{infixOf, binds}
+use Rattle.grammar.specs.Operator.{infixOf, binds}
 use borrow.Author.Needs.{needs}
 use Rattle.syntax.proofs.expression.infix_at.Statement.{statement}
 use Rattle.syntax.proofs.expression.infix_at.Tie as tie

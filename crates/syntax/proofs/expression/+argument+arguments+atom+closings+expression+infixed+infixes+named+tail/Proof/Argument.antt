@@ -1,7 +1,7 @@
 -- `expression::argument` meets its contract: by its test, and by what it calls.
 -- Assumes nothing.
-use Rattle.syntax.proofs.Steps.{on, same-as, refused, argument-first, argument-next}
-use Rattle.syntax.proofs.Going.{came, need-goes}
+use Rattle.grammar.proofs.Steps.{on, same-as, refused, argument-first, argument-next}
+use Rattle.grammar.proofs.Going.{came, need-goes}
 use borrow.Author.Needs.{needs}
 use native.Mathlib.Omega.{arith}
 use mathlib.Core.Path.{sym, _∙_}
@@ -9,7 +9,7 @@ use Prim.Native.Nat.{ℕ, _-_}
 use Rattle.syntax.proofs.expression.+argument+arguments+atom+closings+expression+infixed+infixes+named+tail.Proof.Measures.{argument-at, expression-below}
 use Rattle.syntax.proofs.expression.argument.Reads as argument
 use Rattle.syntax.proofs.expression.expression.Reads as expression
-use Rattle.syntax.proofs.step.need.Reads as need-reads
+use Rattle.grammar.proofs.step.need.Reads as need-reads
 use Rattle.syntax.proofs.expression.+argument+arguments+atom+closings+expression+infixed+infixes+named+tail.Lts-argument as argument-lts
 
 -- what is known of the functions that it calls

@@ -3,9 +3,9 @@
 -- Assumes nothing.
 use Rattle.tokens.specs.Kind as kind
 use Rattle.tokens.specs.Token.{count, kindAt}
-use Rattle.syntax.specs.Memory as M
-use Rattle.syntax.proofs.Steps.{on, same-as, refused, Moves, Turning, begins, turns, arguments-end, arguments-on}
-use Rattle.syntax.proofs.Going.{came, kind-is, argument-goes, expression-goes}
+use Rattle.grammar.specs.Memory as M
+use Rattle.grammar.proofs.Steps.{on, same-as, refused, Moves, Turning, begins, turns, arguments-end, arguments-on}
+use Rattle.grammar.proofs.Going.{came, kind-is, argument-goes, expression-goes}
 use borrow.Author.Needs.{needs}
 use native.Mathlib.Omega.{arith}
 use mathlib.Core.Path.{_≡_, sym, _∙_}
@@ -13,7 +13,7 @@ use Prim.Native.Nat.{ℕ, _+_, _-_, _≤_}
 use Rattle.syntax.proofs.expression.+argument+arguments+atom+closings+expression+infixed+infixes+named+tail.Proof.Measures.{argument-below, arguments-at}
 use Rattle.syntax.proofs.expression.argument.Reads as argument
 use Rattle.syntax.proofs.expression.arguments.Reads as arguments
-use Rattle.syntax.proofs.step.put.Reads as put-reads
+use Rattle.grammar.proofs.step.put.Reads as put-reads
 use Rattle.tokens.proofs.table.kind_at.Reads as kind-at-reads
 use Rattle.syntax.proofs.expression.+argument+arguments+atom+closings+expression+infixed+infixes+named+tail.Lts-arguments as arguments-lts
 

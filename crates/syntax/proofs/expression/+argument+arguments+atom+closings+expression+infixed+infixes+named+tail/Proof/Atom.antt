@@ -1,11 +1,11 @@
 -- `expression::atom` meets its contract: by what the token starts.
 -- Assumes nothing.
 use Rattle.tokens.specs.Token.{kindAt}
-use Rattle.syntax.specs.Operator.{startOf}
-use Rattle.syntax.specs.Memory as M
-use Rattle.syntax.proofs.Steps.{same-as, ends, atom-by}
-use Rattle.syntax.proofs.Going.{start-in}
-use Rattle.syntax.proofs.Openings.{start-paren}
+use Rattle.grammar.specs.Operator.{startOf}
+use Rattle.grammar.specs.Memory as M
+use Rattle.grammar.proofs.Steps.{same-as, ends, atom-by}
+use Rattle.grammar.proofs.Going.{start-in}
+use Rattle.grammar.proofs.Openings.{start-paren}
 use borrow.Author.Needs.{needs}
 use native.Mathlib.Omega.{arith}
 use mathlib.Core.Path.{_≡_, refl, sym, ap, _∙_}
@@ -13,9 +13,9 @@ use Prim.Native.Nat.{ℕ, suc, _+_, _-_, _<_, _≤_}
 use Rattle.syntax.proofs.expression.+argument+arguments+atom+closings+expression+infixed+infixes+named+tail.Proof.Measures.{atom-at, named-below}
 use Rattle.syntax.proofs.expression.atom.Reads as atom
 use Rattle.syntax.proofs.expression.named.Reads as named
-use Rattle.syntax.proofs.expression.numeral.Reads as numeral-reads
-use Rattle.syntax.proofs.operator.start_of.Reads as start-of-reads
-use Rattle.syntax.proofs.step.leaf.Reads as leaf-reads
+use Rattle.grammar.proofs.leaf.numeral.Reads as numeral-reads
+use Rattle.grammar.proofs.operator.start_of.Reads as start-of-reads
+use Rattle.grammar.proofs.step.leaf.Reads as leaf-reads
 use Rattle.tokens.proofs.table.kind_at.Reads as kind-at-reads
 use Rattle.syntax.proofs.expression.+argument+arguments+atom+closings+expression+infixed+infixes+named+tail.Lts-atom as atom-lts
 

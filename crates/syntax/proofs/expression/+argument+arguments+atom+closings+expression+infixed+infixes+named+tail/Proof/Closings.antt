@@ -3,11 +3,11 @@
 use mathlib.Core.List.{List}
 use lib.ListN.{length}
 use Rattle.tokens.specs.Token.{count, kindAt}
-use Rattle.syntax.specs.Memory as M
-use Rattle.syntax.specs.Memory.{Gives}
-use Rattle.syntax.proofs.Steps.{on, refused, stays}
-use Rattle.syntax.proofs.Going.{came, tail-goes, tail-some, closed-goes, closed-some, expression-goes, expression-some}
-use Rattle.syntax.proofs.Openings.{onward-ends, onward-goes, closings-turn}
+use Rattle.grammar.specs.Memory as M
+use Rattle.grammar.specs.Memory.{Gives}
+use Rattle.grammar.proofs.Steps.{on, refused, stays}
+use Rattle.grammar.proofs.Going.{came, tail-goes, tail-some, closed-goes, closed-some, expression-goes, expression-some}
+use Rattle.grammar.proofs.Openings.{onward-ends, onward-goes, closings-turn}
 -- Assumes nothing.
 use borrow.Author.Needs.{needs}
 use native.Mathlib.Omega.{arith}
@@ -16,8 +16,8 @@ use Prim.Native.Nat.{ℕ, suc, _+_, _-_, _<_, _≤_}
 use Rattle.syntax.proofs.expression.+argument+arguments+atom+closings+expression+infixed+infixes+named+tail.Proof.Measures.{closings-at, tail-below}
 use Rattle.syntax.proofs.expression.closings.Reads as closings
 use Rattle.syntax.proofs.expression.tail.Reads as tail
-use Rattle.syntax.proofs.opening.closed.Reads as closed-reads
-use Rattle.syntax.proofs.opening.minimum.Reads as minimum-reads
+use Rattle.grammar.proofs.opening.closed.Reads as closed-reads
+use Rattle.grammar.proofs.opening.minimum.Reads as minimum-reads
 use Rattle.tokens.proofs.table.kind_at.Reads as kind-at-reads
 use Rattle.syntax.proofs.expression.+argument+arguments+atom+closings+expression+infixed+infixes+named+tail.Lts-closings as closings-lts
 

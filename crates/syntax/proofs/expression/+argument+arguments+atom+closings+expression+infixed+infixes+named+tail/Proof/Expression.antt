@@ -1,8 +1,8 @@
 -- `expression::expression` meets its contract: by what its openings come to, and by what it calls.
 -- Assumes nothing.
-use Rattle.syntax.proofs.Steps.{on, same-as, refused, ends}
-use Rattle.syntax.proofs.Going.{came, atom-ends, atom-some, expression-goes, expression-some}
-use Rattle.syntax.proofs.Openings.{opened-is, expression-refused, expression-by}
+use Rattle.grammar.proofs.Steps.{on, same-as, refused, ends}
+use Rattle.grammar.proofs.Going.{came, atom-ends, atom-some, expression-goes, expression-some}
+use Rattle.grammar.proofs.Openings.{opened-is, expression-refused, expression-by}
 use borrow.Author.Needs.{needs}
 use native.Mathlib.Omega.{arith}
 use mathlib.Core.Path.{_≡_, refl, sym, ap, _∙_}
@@ -11,7 +11,7 @@ use Rattle.syntax.proofs.expression.+argument+arguments+atom+closings+e
 use Rattle.syntax.proofs.expression.atom.Reads as atom
 use Rattle.syntax.proofs.expression.closings.Reads as closings
 use Rattle.syntax.proofs.expression.expression.Reads as expression
-use Rattle.syntax.proofs.opening.opened.Reads as opened-reads
+use Rattle.grammar.proofs.opening.opened.Reads as opened-reads
 use Rattle.syntax.proofs.expression.+argument+arguments+atom+closings+expression+infixed+infixes+named+tail.Lts-expression as expression-lts
 
 -- what is known of the functions that it calls

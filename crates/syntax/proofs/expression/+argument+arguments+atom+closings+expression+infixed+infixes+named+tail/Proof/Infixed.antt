@@ -1,12 +1,12 @@
 -- `expression::infixed` meets its contract: by what it calls.
 -- Assumes nothing.
 use Rattle.tokens.specs.Token.{kindAt}
-use Rattle.syntax.specs.Operator.{infixOf, rightOf}
-use Rattle.syntax.specs.Tree.{rowOf}
-use Rattle.syntax.specs.Memory as M
-use Rattle.syntax.specs.Memory.{Gives}
-use Rattle.syntax.proofs.Steps.{on, same-as, refused}
-use Rattle.syntax.proofs.Going.{came, expression-some}
+use Rattle.grammar.specs.Operator.{infixOf, rightOf}
+use Rattle.grammar.specs.Tree.{rowOf}
+use Rattle.grammar.specs.Memory as M
+use Rattle.grammar.specs.Memory.{Gives}
+use Rattle.grammar.proofs.Steps.{on, same-as, refused}
+use Rattle.grammar.proofs.Going.{came, expression-some}
 use borrow.Author.Needs.{needs}
 use native.Mathlib.Omega.{arith}
 use mathlib.Core.Path.{refl, sym}
@@ -14,9 +14,9 @@ use Prim.Native.Nat.{ℕ, _-_}
 use Rattle.syntax.proofs.expression.+argument+arguments+atom+closings+expression+infixed+infixes+named+tail.Proof.Measures.{expression-below, infixed-at}
 use Rattle.syntax.proofs.expression.expression.Reads as expression
 use Rattle.syntax.proofs.expression.infixed.Reads as infixed
-use Rattle.syntax.proofs.operator.right_of.Reads as right-of-reads
-use Rattle.syntax.proofs.operator.row_of.Reads as row-of-reads
-use Rattle.syntax.proofs.step.put.Reads as put-reads
+use Rattle.grammar.proofs.operator.right_of.Reads as right-of-reads
+use Rattle.grammar.proofs.operator.row_of.Reads as row-of-reads
+use Rattle.grammar.proofs.step.put.Reads as put-reads
 use Rattle.tokens.proofs.table.kind_at.Reads as kind-at-reads
 use Rattle.syntax.proofs.expression.+argument+arguments+atom+closings+expression+infixed+infixes+named+tail.Lts-infixed as infixed-lts
 

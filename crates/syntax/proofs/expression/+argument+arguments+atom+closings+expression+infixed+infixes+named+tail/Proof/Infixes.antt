@@ -4,10 +4,10 @@
 use borrow.Author.Tests.{not-true, not-false}
 use mathlib.Core.Bool.{true}
 use Rattle.tokens.specs.Token.{count, kindAt}
-use Rattle.syntax.specs.Operator.{binds, infixOf}
-use Rattle.syntax.specs.Memory as M
-use Rattle.syntax.proofs.Steps.{on, refused, stays, Moves, Turning, begins, turns, while-on, while-off}
-use Rattle.syntax.proofs.Going.{came, infix-in, infixed-goes, infixed-some, expression-goes, expression-some}
+use Rattle.grammar.specs.Operator.{binds, infixOf}
+use Rattle.grammar.specs.Memory as M
+use Rattle.grammar.proofs.Steps.{on, refused, stays, Moves, Turning, begins, turns, while-on, while-off}
+use Rattle.grammar.proofs.Going.{came, infix-in, infixed-goes, infixed-some, expression-goes, expression-some}
 use borrow.Author.Needs.{needs}
 use native.Mathlib.Omega.{arith}
 use mathlib.Core.Path.{_≡_, sym, _∙_}

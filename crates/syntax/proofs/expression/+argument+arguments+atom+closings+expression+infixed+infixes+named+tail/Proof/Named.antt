@@ -1,8 +1,8 @@
 -- `expression::named` meets its contract: by its test, and by what it calls.
 -- Assumes nothing.
 use Rattle.tokens.specs.Kind as kind
-use Rattle.syntax.proofs.Steps.{same-as, named-open, named-column}
-use Rattle.syntax.proofs.Going.{kind-is}
+use Rattle.grammar.proofs.Steps.{same-as, named-open, named-column}
+use Rattle.grammar.proofs.Going.{kind-is}
 use borrow.Author.Needs.{needs}
 use native.Mathlib.Omega.{arith}
 use mathlib.Core.Path.{sym, _∙_}
@@ -10,7 +10,7 @@ use Prim.Native.Nat.{ℕ, _-_}
 use Rattle.syntax.proofs.expression.+argument+arguments+atom+closings+expression+infixed+infixes+named+tail.Proof.Measures.{arguments-below, named-at}
 use Rattle.syntax.proofs.expression.arguments.Reads as arguments
 use Rattle.syntax.proofs.expression.named.Reads as named
-use Rattle.syntax.proofs.expression.column.Reads as column-reads
+use Rattle.grammar.proofs.leaf.column.Reads as column-reads
 use Rattle.tokens.proofs.table.kind_at.Reads as kind-at-reads
 use Rattle.syntax.proofs.expression.+argument+arguments+atom+closings+expression+infixed+infixes+named+tail.Lts-named as named-lts
 

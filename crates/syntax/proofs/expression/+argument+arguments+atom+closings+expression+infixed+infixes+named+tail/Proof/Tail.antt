@@ -1,9 +1,9 @@
 -- `expression::tail` meets its contract: each step goes on from where the one before came to, within the tokens and with a row written.
 -- Assumes nothing.
 use borrow.Author.Tests.{not-true}
-use Rattle.syntax.specs.Memory as M
-use Rattle.syntax.proofs.Steps.{on, same-as, refused, stays, while-off}
-use Rattle.syntax.proofs.Going.{came, postfixes-goes, postfixes-some, infixes-goes, infixes-some, expression-goes, expression-some}
+use Rattle.grammar.specs.Memory as M
+use Rattle.grammar.proofs.Steps.{on, same-as, refused, stays, while-off}
+use Rattle.grammar.proofs.Going.{came, postfixes-goes, postfixes-some, infixes-goes, infixes-some, expression-goes, expression-some}
 use borrow.Author.Needs.{needs}
 use native.Mathlib.Omega.{arith}
 use mathlib.Core.Path.{_≡_, refl, sym, ap, _∙_}
@@ -11,9 +11,9 @@ use Prim.Native.Nat.{ℕ, suc, _+_, _-_, _<_, _≤_}
 use Rattle.syntax.proofs.expression.+argument+arguments+atom+closings+expression+infixed+infixes+named+tail.Proof.Measures.{infixes-below, tail-at}
 use Rattle.syntax.proofs.expression.infixes.Reads as infixes
 use Rattle.syntax.proofs.expression.tail.Reads as tail
-use Rattle.syntax.proofs.postfix.any_postfixes.Reads as any-postfixes-reads
-use Rattle.syntax.proofs.postfix.postfix_at.Reads as postfix-at-reads
-use Rattle.syntax.proofs.postfix.postfixes.Reads as postfixes-reads
+use Rattle.grammar.proofs.postfix.any_postfixes.Reads as any-postfixes-reads
+use Rattle.grammar.proofs.postfix.postfix_at.Reads as postfix-at-reads
+use Rattle.grammar.proofs.postfix.postfixes.Reads as postfixes-reads
 use Rattle.syntax.proofs.expression.+argument+arguments+atom+closings+expression+infixed+infixes+named+tail.Lts-tail as tail-lts
 
 -- what is known of the functions that it calls

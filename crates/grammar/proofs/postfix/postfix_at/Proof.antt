@@ -1,0 +1,23 @@
+-- `postfix::postfix_at` meets its contract: by what it calls.
+-- Assumes nothing.
+use mathlib.Core.Path.{ap, _∙_}
+use Prim.Native.Nat.{ℕ}
+use Rattle.grammar.specs.Operator.{postfixOf, binds}
+use borrow.Author.Needs.{needs}
+use Rattle.grammar.proofs.postfix.postfix_at.Statement.{statement}
+use Rattle.grammar.proofs.postfix.postfix_at.Tie as tie
+
+kind-at-requires : tie.Need-kind-at-requires
+kind-at-requires c κs = search needs
+
+postfix-of-requires : tie.Need-postfix-of-requires
+postfix-of-requires c κs = search needs
+
+binds-requires : tie.Need-binds-requires
+binds-requires c κs = search needs
+
+returns : tie.Need-returns
+returns c = c .binds .ensures ∙ ap (λ (p : ℕ). binds p (c .before .before .before .before .args .min)) (c .before .postfix-of .ensures ∙ ap postfixOf (c .before .before .kind-at .ensures))
+
+pub postfix-at-spec : {M : Type 1} → statement M
+postfix-at-spec = tie.close (tie.spec kind-at-requires postfix-of-requires binds-requires returns)

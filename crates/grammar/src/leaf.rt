@@ -1,0 +1,64 @@
+// The leaves that take a look: numbers, by their bytes, and columns, by the token after the name.
+use crate::kind as row;
+use crate::step::Cursor;
+use crate::step::Step;
+use crate::step::leaf;
+use crate::step::need;
+use crate::step::put;
+use rows::Row;
+use tokens::kind;
+use tokens::number;
+use tokens::number::Number;
+use tokens::refusal::Refusal;
+use tokens::table;
+use tokens::table::kind_at;
+ghost use mathlib.Core.Path.{_≡_};
+ghost use Prim.Native.Nat.{_<_};
+ghost use Rattle.tokens.specs.Token.{count, kindAt, spelled};
+ghost use Rattle.tokens.specs.Number.{numberOf};
+ghost use Rattle.grammar.specs.Memory.{Gives, numeral as numeralOf, column as columnOf};
+
+// A number.
+pub fn numeral(text: &[u8], tokens: &[u32], rows: &mut [u64], c: Cursor) -> Step
+    requires { ⌜ c .at < count (now tokens) ⌝ }
+    ensures { λ r. ⌜ Gives (numeralOf (numberOf (spelled (now (text .entry)) (now (tokens .entry)) (c .at))) c (now (rows .entry))) r (now (rows .exit)) ⌝ }
+{
+    let at = c.at;
+    match number::number_of(table::spelled(text, tokens, at)) {
+        Number::Integer(n) => leaf(rows, c, row::INTEGER, n),
+        Number::Float => leaf(rows, c, row::FLOAT, at as u64),
+        Number::Neither => Step::Refused(Refusal::BadNumber, at),
+    }
+}
+
+// A column: name.name or name.
+pub fn column(tokens: &[u32], rows: &mut [u64], c: Cursor) -> Step
+    requires { ⌜ c .at < count (now tokens) ⌝ }
+    ensures { λ r. ⌜ Gives (columnOf (now (tokens .entry)) c (now (rows .entry))) r (now (rows .exit)) ⌝ }
+{
+    let at = c.at;
+    let n = c.rows;
+    let after = at + 1;
+    if kind_at(tokens, after) != kind::PERIOD {
+        return leaf(rows, c, row::COLUMN, at as u64);
+    }
+    let name = at + 2;
+    let s = need(
+        tokens,
+        Cursor { at: name, rows: n },
+        kind::IDENT,
+        Refusal::WrongToken,
+    );
+    let Step::Read(d) = s else {
+        return s;
+    };
+    put(
+        rows,
+        d,
+        Row {
+            kind: row::QUALIFIED,
+            x: at as u64,
+            y: name as u64,
+        },
+    )
+}
