@@ -1,23 +1,23 @@
--- The answers of `list_tree` and `split`: each refusal in its case (`gives-many`, `gives-short`, `promise-refused`), and the written lists otherwise
--- (`gives-all`, `promise-listed`), which mean the predicate (`split-means`).
+-- The answers of `list_many`, `list_one` and `split`: each refusal in its case (`gives-many`, `gives-short`, `one-short`, `promise-refused`), and the written
+-- lists otherwise (`gives-all`, `one-all`, `promise-listed`), which mean the predicate (`split-means`).
 -- Assumes nothing.
-use Prim.Native.Nat.{ℕ, _-_, _<_, _≤_}
+use Prim.Native.Nat.{ℕ, _+_, _*_, _-_, _<_, _≤_}
 use mathlib.Core.Path.{_≡_, refl, sym, ap, ap₂, _∙_, subst}
 use mathlib.Core.Bool.{Bool, true, false, _||_}
 use mathlib.Core.Logic.{_⊎_, inl, inr}
-use mathlib.Core.List.{List, _++_}
+use mathlib.Core.List.{List, [], _∷_, _++_}
 use native.Mathlib.Omega.{arith}
-use lib.ListN.{length, take, drop}
+use lib.ListN.{length, set, take, drop}
 use lib.Dec.{ltb}
 use lib.Seq.{take-at}
 use borrow.Author.Tests.{lt-ltb, le-ltb, ltb-false}
 use Rattle.tokens.specs.declared.refusal.Refusal.{Refusal}
 use Rattle.tokens.specs.declared.refusal.Refusal.the-variants.{TooMany, NoList}
-use Rattle.predicate.specs.Tree.{Tree}
+use Rattle.predicate.specs.Tree.{Tree, rootOf}
 use Rattle.predicate.specs.Read.{Reading, one, refused, readRows}
-use Rattle.clauses.specs.Clause.{Literal, clausesMax, literalsMax, clauses, total, numbers, endsFrom}
+use Rattle.clauses.specs.Clause.{Literal, literal, clausesMax, literalsMax, clauses, total, bit, code, numbers, endsFrom}
 use Rattle.clauses.specs.Kleene.{readBack, Means}
-use Rattle.clauses.specs.Size.{sizeOf}
+use Rattle.clauses.specs.Size.{capped, sizeOf}
 use Rattle.clauses.specs.Chain.{Written}
 use Rattle.clauses.specs.Split.{Split, listOf, splitOf, Gives, Promise}
 use Rattle.clauses.specs.declared.Size.{Size}
@@ -93,6 +93,36 @@ module _ (cs : List (List Literal)) (a d : List ℕ) where
         subst (λ (s : Split). Gives s (Clauses n t) b x)
         (sym (by-tests false false few (ap₂ _||_ (le-ltb (length a) (total cs) h) (le-ltb (length d) (length cs) k))))
         (record { answer = ap₂ Clauses (en ∙ sizes .0) (et ∙ sizes .1); literals = w .literals; ends = w .ends })
+
+-- equal lists are listed alike
+pub listed-as : (a d : List ℕ) {cs ds : List (List Literal)} {b x : List ℕ} {v : Listed} → cs ≡ ds → Gives (listOf ds a d) v b x → Gives (listOf cs a d) v b x
+listed-as a d {cs} {ds} {b} {x} {v} same h = subst (λ (es : List (List Literal)). Gives (listOf es a d) v b x) (sym same) h
+
+-- ---- the list of one literal
+
+set-first : (l : List ℕ) (x : ℕ) → (length l ≡ 0 → ⊥) → set l 0 x ≡ x ∷ drop 1 l
+set-first [] x some = absurd (some refl)
+set-first (y ∷ ys) x some = refl
+
+module _ (g : Bool) (t : Tree) (a d : List ℕ) where
+  abbrev alone : List (List Literal)
+  alone = (literal g t ∷ []) ∷ []
+
+  size-one : Is 1 1 ≡ sizeOf alone
+  unfolding sizeOf capped
+  size-one = refl
+
+  pub one-short : length a ≡ 0 → Gives (listOf alone a d) (Refused NoList 0) a d
+  one-short none = gives-short alone a d size-one refl (omega arith)
+
+  pub one-shorter : (length a ≡ 0 → ⊥) → length d ≡ 0 → Gives (listOf alone a d) (Refused NoList 0) a d
+  one-shorter some none = gives-shorter alone a d size-one refl (omega arith) (omega arith)
+
+  pub one-all : {x : ℕ} → x ≡ 2 * rootOf t + bit g → (length a ≡ 0 → ⊥) → (length d ≡ 0 → ⊥) → Gives (listOf alone a d) (Clauses 1 1) (set a 0 x) (set d 0 1)
+  unfolding code
+  one-all {x} is some more =
+      gives-all alone a d size-one refl refl refl (omega arith) (omega arith)
+      (record { literals = set-first a x some ∙ ap (λ (n : ℕ). n ∷ drop 1 a) is; ends = set-first d 1 more })
 
 -- ---- what a caller gets
 

@@ -8,11 +8,12 @@ use predicate::Shape;
 use tokens::refusal::Refusal;
 ghost use mathlib.Core.Path.{_≡_};
 ghost use mathlib.Core.Bool.{false};
+ghost use mathlib.Core.List.{[], _∷_};
 ghost use Prim.Native.Nat.{ℕ, _+_, _*_, _<_, _≤_, _^_};
 ghost use lib.ListN.{length};
 ghost use Rattle.tokens.specs.Limits.{rowsMax};
-ghost use Rattle.predicate.specs.Tree.{treeAt, Sound};
-ghost use Rattle.clauses.specs.Clause.{bit, clauses, total};
+ghost use Rattle.predicate.specs.Tree.{Tree, rootOf, treeAt, Sound};
+ghost use Rattle.clauses.specs.Clause.{bit, literal, clauses, total};
 ghost use Rattle.clauses.specs.Size.{capped as cappedOf, joined as joinedOf, sizeOf, Small};
 ghost use Rattle.clauses.specs.Part.{partAt};
 ghost use Rattle.clauses.specs.Chain.{chainOf, freeOf, Cells, Heads, Put, Clear, Copied, Keeps, Kept, Agains, Again, Fits, strung, Stringing, Linked, Wrote, Room, Written};
@@ -335,7 +336,7 @@ fn list(rows: &[u64], literals: &mut [u32], ends: &mut [u32], r: usize, n: usize
 }
 
 // Counts the clauses of row r, and lists them where there is room.
-fn list_tree(rows: &[u64], literals: &mut [u32], ends: &mut [u32], r: usize) -> Listed
+fn list_many(rows: &[u64], literals: &mut [u32], ends: &mut [u32], r: usize) -> Listed
     requires { ⌜ Sound (now rows) r × (r < rowsMax) ⌝ }
     ensures { λ v. ⌜ Gives (listOf (clauses false (treeAt (now (rows .entry)) r)) (now (literals .entry)) (now (ends .entry))) v (now (literals .exit)) (now (ends .exit)) ⌝ }
 {
@@ -353,6 +354,33 @@ fn list_tree(rows: &[u64], literals: &mut [u32], ends: &mut [u32], r: usize) -> 
     }
     list(rows, literals, ends, r, n, t);
     Listed::Clauses(n, t)
+}
+
+// Lists the one literal of an atom, if there is room.
+fn list_one(literals: &mut [u32], ends: &mut [u32], r: usize, neg: bool) -> Listed
+    requires { ⌜ r < rowsMax ⌝ }
+    ensures { λ v. ⌜ ((t : Tree) → rootOf t ≡ r → Gives (listOf ((literal neg t ∷ []) ∷ []) (now (literals .entry)) (now (ends .entry))) v (now (literals .exit)) (now (ends .exit))) ⌝ }
+{
+    if literals.len() == 0 {
+        return Listed::Refused(Refusal::NoList, 0);
+    }
+    if ends.len() == 0 {
+        return Listed::Refused(Refusal::NoList, 0);
+    }
+    literals[0] = narrow(wide(code(r, neg)));
+    ends[0] = 1;
+    Listed::Clauses(1, 1)
+}
+
+// Lists the clauses of row r. Most often, and in a run of NOTs, that is one literal: it needs no counting.
+fn list_tree(rows: &[u64], literals: &mut [u32], ends: &mut [u32], r: usize) -> Listed
+    requires { ⌜ Sound (now rows) r × (r < rowsMax) ⌝ }
+    ensures { λ v. ⌜ Gives (listOf (clauses false (treeAt (now (rows .entry)) r)) (now (literals .entry)) (now (ends .entry))) v (now (literals .exit)) (now (ends .exit)) ⌝ }
+{
+    match part_at(rows, r, false) {
+        Part::Here(q, neg) => list_one(literals, ends, q, neg),
+        Part::Join(_, _, _, _) => list_many(rows, literals, ends, r),
+    }
 }
 
 // Splits a predicate into clauses.
