@@ -69,8 +69,12 @@ closings-add-rest t c = omega (arith, c .if1 .left, c .before .before .before .b
 pub closings-kind-at-requires : (t : ℕ) → closings-lts.Need-kind-at-requires (calls t) (closings-at t) closings.Post closings-Inv-loop closings-μ-loop
 closings-kind-at-requires t c κs = search needs
 
+-- after a tail
+stands : (t : ℕ) (c : closings-lts.After-s (calls t) (closings-at t) closings.Post closings-Inv-loop closings-μ-loop) → (c .s .given .0 .0 .at ≤ count (c .before .before .before .before .before .before .before .before .before .before .before .args .tokens .now)) × (0 < c .s .given .0 .0 .rows)
+stands t c = (came (c .s .given .1) (c .before .before .before .before .tail .ensures) (tail-goes _ _ _ (expression-goes _ _ _) _ _ _ (c .before .before .before .before .before .before .before .loop .inv .1)) .within, came (c .s .given .1) (c .before .before .before .before .tail .ensures) (tail-some _ _ _ (expression-some _ _ _) _ _ _ (c .before .before .before .before .before .before .before .loop .inv .2)))
+
 pub closings-closed-requires : (t : ℕ) → closings-lts.Need-closed-requires (calls t) (closings-at t) closings.Post closings-Inv-loop closings-μ-loop
-closings-closed-requires t c κs = came (c .before .before .before .before .s .given .1) (c .before .before .before .before .before .before .before .before .tail .ensures) (tail-some _ _ _ (expression-some _ _ _) _ _ _ (c .before .before .before .before .before .before .before .before .before .before .before .loop .inv .2))
+closings-closed-requires t c κs = stands t (c .before .before .before .before) .1
 
 pub closings-enum-known-s-2 : (t : ℕ) → closings-lts.Need-enum-known-s-2 (calls t) (closings-at t) closings.Post closings-Inv-loop closings-μ-loop
 closings-enum-known-s-2 t c = search needs
@@ -90,8 +94,8 @@ closings-loop-less t c = omega (arith, c .before .before .before .before .before
 pub closings-loop-again : (t : ℕ) → closings-lts.Need-loop-again (calls t) (closings-at t) closings.Post closings-Inv-loop closings-μ-loop
 closings-loop-again t c = (
   c .before .before .before .before .before .closed .kept .1 .0 ∙ c .before .before .before .before .before .before .before .before .before .before .before .before .before .before .tail .kept .1 .1 .0 ∙ c .before .before .before .before .before .before .before .before .before .before .before .before .before .before .before .before .before .loop .inv .0,
-  came (c .before .s2 .given .1) (c .before .before .before .before .before .closed .ensures) (closed-goes _ _ _ _ (came (c .before .before .before .before .before .before .before .before .before .before .s .given .1) (c .before .before .before .before .before .before .before .before .before .before .before .before .before .before .tail .ensures) (tail-goes _ _ _ (expression-goes _ _ _) _ _ _ (c .before .before .before .before .before .before .before .before .before .before .before .before .before .before .before .before .before .loop .inv .1)) .within)) .within,
-  came (c .before .s2 .given .1) (c .before .before .before .before .before .closed .ensures) (closed-some _ _ _ _ (came (c .before .before .before .before .before .before .before .before .before .before .s .given .1) (c .before .before .before .before .before .before .before .before .before .before .before .before .before .before .tail .ensures) (tail-some _ _ _ (expression-some _ _ _) _ _ _ (c .before .before .before .before .before .before .before .before .before .before .before .before .before .before .before .before .before .loop .inv .2)))),
+  came (c .before .s2 .given .1) (c .before .before .before .before .before .closed .ensures) (closed-goes _ _ _ _ (stands t (c .before .before .before .before .before .before .before .before .before .before) .0)) .within,
+  came (c .before .s2 .given .1) (c .before .before .before .before .before .closed .ensures) (closed-some _ _ _ _ (stands t (c .before .before .before .before .before .before .before .before .before .before) .1)),
   omega (arith, c .before .before .before .before .before .before .before .before .if1 .left),
   omega (arith, c .before .before .before .before .before .before .before .before .if1 .left, c .before .before .before .before .before .before .before .before .before .before .before .before .before .before .before .before .before .loop .inv .4),
   sym (on _ (c .before .s2 .given .1) (rw (c .before .before .before .before .before .before .kind-at .ensures) at (c .before .before .before .before .before .closed .ensures))) ∙ sym (onward-goes _ _ _ _ _ _ (omega (arith, c .before .before .before .before .before .before .before .before .if1 .left)) _ _) ∙ sym (on _ (c .before .before .before .before .before .before .before .before .before .before .s .given .1) (rw (c .before .before .before .before .before .before .before .before .before .before .before .before .before .before .before .minimum .ensures) at (c .before .before .before .before .before .before .before .before .before .before .before .before .before .before .tail .ensures))) ∙ sym (closings-turn _ _ _ _ _ _ _ _) ∙ c .before .before .before .before .before .before .before .before .before .before .before .before .before .before .before .before .before .loop .inv .5,

@@ -1,6 +1,7 @@
 -- `expression::tail` meets its contract: each step goes on from where the one before came to, within the tokens and with a row written.
 -- Assumes nothing.
 use borrow.Author.Tests.{not-true}
+use Rattle.tokens.specs.Token.{count}
 use Rattle.grammar.specs.Memory as M
 use Rattle.grammar.proofs.Steps.{on, same-as, refused, stays, while-off}
 use Rattle.grammar.proofs.Going.{came, postfixes-goes, postfixes-some, infixes-goes, infixes-some, expression-goes, expression-some}
@@ -35,8 +36,12 @@ tail-same-length t c = search needs
 pub tail-returns : (t : ℕ) → tail-lts.Need-returns (calls t) (tail-at t) tail.Post
 tail-returns t c = refused _ (c .enum-told .given .1) (c .before .before .before .before .any-postfixes .ensures) refl
 
+-- after the first postfix operators
+stands : (t : ℕ) (c : tail-lts.After-first (calls t) (tail-at t) tail.Post) → (c .first .given .0 .0 .at ≤ count (c .before .before .before .before .before .before .before .before .before .args .tokens .now)) × (0 < c .first .given .0 .0 .rows)
+stands t c = (came (c .first .given .1) (c .before .before .before .before .any-postfixes .ensures) (postfixes-goes _ _ _ _ (c .before .before .before .before .before .before .before .before .before .pre .1 .0)) .within, came (c .first .given .1) (c .before .before .before .before .any-postfixes .ensures) (postfixes-some _ _ _ _ (c .before .before .before .before .before .before .before .before .before .pre .1 .1)))
+
 pub tail-infixes-requires : (t : ℕ) → tail-lts.Need-infixes-requires (calls t) (tail-at t) tail.Post
-tail-infixes-requires t c κs = (omega (arith, c .before .before .before .before .before .before .before .before .before .before .before .pre .0), (came (c .before .before .first .given .1) (c .before .before .before .before .before .before .any-postfixes .ensures) (postfixes-goes _ _ _ _ (c .before .before .before .before .before .before .before .before .before .before .before .pre .1 .0)) .within, came (c .before .before .first .given .1) (c .before .before .before .before .before .before .any-postfixes .ensures) (postfixes-some _ _ _ _ (c .before .before .before .before .before .before .before .before .before .before .before .pre .1 .1))))
+tail-infixes-requires t c κs = (omega (arith, c .before .before .before .before .before .before .before .before .before .before .before .pre .0), stands t (c .before .before))
 
 pub tail-enum-known-second : (t : ℕ) → tail-lts.Need-enum-known-second (calls t) (tail-at t) tail.Post
 tail-enum-known-second t c = search needs
@@ -61,7 +66,7 @@ unfolding M.postfixes
 tail-returns-3 t c = stays (on _ (c .before .before .before .before .before .before .before .before .before .before .first .given .1) (c .before .before .before .before .before .before .before .before .before .before .before .before .before .before .any-postfixes .ensures) ∙ on _ (c .before .before .before .second .given .1) (c .before .before .before .before .before .before .before .infixes .ensures) ∙ while-off _ _ _ _ _ (sym (c .before .postfix-at .ensures) ∙ not-true (c .before .postfix-at .result) (c .if1 .taken)))
 
 pub tail-postfixes-requires : (t : ℕ) → tail-lts.Need-postfixes-requires (calls t) (tail-at t) tail.Post
-tail-postfixes-requires t c κs = (came (c .before .before .before .before .second .given .1) (c .before .before .before .before .before .before .before .before .infixes .ensures) (infixes-goes _ _ _ (expression-goes _ _ _) _ _ _ (came (c .before .before .before .before .before .before .before .before .before .before .before .first .given .1) (c .before .before .before .before .before .before .before .before .before .before .before .before .before .before .before .any-postfixes .ensures) (postfixes-goes _ _ _ _ (c .before .before .before .before .before .before .before .before .before .before .before .before .before .before .before .before .before .before .before .before .pre .1 .0)) .within)) .within, came (c .before .before .before .before .second .given .1) (c .before .before .before .before .before .before .before .before .infixes .ensures) (infixes-some _ _ _ (expression-some _ _ _) _ _ _ (came (c .before .before .before .before .before .before .before .before .before .before .before .first .given .1) (c .before .before .before .before .before .before .before .before .before .before .before .before .before .before .before .any-postfixes .ensures) (postfixes-some _ _ _ _ (c .before .before .before .before .before .before .before .before .before .before .before .before .before .before .before .before .before .before .before .before .pre .1 .1)))))
+tail-postfixes-requires t c κs = (came (c .before .before .before .before .second .given .1) (c .before .before .before .before .before .before .before .before .infixes .ensures) (infixes-goes _ _ _ (expression-goes _ _ _) _ _ _ (stands t (c .before .before .before .before .before .before .before .before .before .before .before) .0)) .within, came (c .before .before .before .before .second .given .1) (c .before .before .before .before .before .before .before .before .infixes .ensures) (infixes-some _ _ _ (expression-some _ _ _) _ _ _ (stands t (c .before .before .before .before .before .before .before .before .before .before .before) .1)))
 
 pub tail-same-length-4 : (t : ℕ) → tail-lts.Need-same-length-4 (calls t) (tail-at t) tail.Post
 tail-same-length-4 t c = c .before .before .postfixes .kept .1 .0 ∙ c .before .before .before .before .before .before .before .before .before .before .before .infixes .kept .1 .1 .0 ∙ c .before .before .before .before .before .before .before .before .before .before .before .before .before .before .before .before .before .before .any-postfixes .kept .1 .0
