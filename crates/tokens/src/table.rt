@@ -35,7 +35,7 @@ pub fn count(tokens: &[u32]) -> usize
 }
 
 // Token n, or none.
-pub fn token_at(tokens: &[u32], n: usize) -> Token
+fn token_at(tokens: &[u32], n: usize) -> Token
     ensures { λ r. ⌜ r ≡ tokenAt (now (tokens .entry)) n ⌝ }
 {
     if n < tokens.len() / 3 {
@@ -69,14 +69,14 @@ pub fn kind_at(tokens: &[u32], n: usize) -> u32
 }
 
 // Is this one of the kinds?
-pub fn known(kind: u32) -> bool
+fn known(kind: u32) -> bool
     ensures { λ r. ⌜ r ≡ knownOf kind ⌝ }
 {
     if 1 <= kind { kind <= kind::LAST } else { false }
 }
 
 // Does a token's span lie in the text? The sum of two 32-bit numbers cannot wrap here.
-pub fn span_fits(text: &[u8], t: Token) -> bool
+fn span_fits(text: &[u8], t: Token) -> bool
     ensures { λ r. ⌜ r ≡ fits (now (text .entry)) t ⌝ }
 {
     let start = t.start as usize;
