@@ -18,7 +18,7 @@ use Rattle.grammar.specs.declared.operator.Start.{Start}
 use Rattle.grammar.specs.declared.operator.Start.the-variants as start
 use Rattle.grammar.specs.declared.step.Cursor.{Cursor}
 use Rattle.grammar.proofs.Among.{both}
-use Rattle.grammar.proofs.Steps.{prefix-on, prefix-off, atom-by}
+use Rattle.grammar.proofs.Steps.{one-less, prefix-on, prefix-off, atom-by}
 use Rattle.grammar.proofs.Going.{kind-is, prefix-in}
 
 -- what follows may be put otherwise
@@ -135,14 +135,11 @@ module _ (ts : List ℕ) where
 
   -- the same two, of a number of levels that is not 0
   module _ (levels m at : ℕ) (some : 0 < levels) where
-    one-less : suc (levels - 1) ≡ levels
-    one-less = omega arith
-
     pub opened-stops : opens (kindAt ts at) m ≡ false → opened ts levels m at ≡ record { at = at; left = levels }
-    opened-stops e = rw one-less at (opened-off (levels - 1) m at e)
+    opened-stops e = rw (one-less levels some) at (opened-off (levels - 1) m at e)
 
     pub opened-goes : opens (kindAt ts at) m ≡ true → opened ts levels m at ≡ opened ts (levels - 1) (prefixOf (kindAt ts at) .precedence) (at + 1)
-    opened-goes e = rw one-less at (opened-on (levels - 1) m at e)
+    opened-goes e = rw (one-less levels some) at (opened-on (levels - 1) m at e)
 
   -- an opening is one of the tokens
   pub opening-in : (at m : ℕ) → opens (kindAt ts at) m ≡ true → at < count ts
@@ -303,11 +300,8 @@ module _ (text ts : List ℕ) where
 
     pub expression-by : (o .left ≡ 0 → ⊥) → then (first (o .left - 1) o c t) (closings text ts m (c .at) (o .left - 1) (o .at - c .at)) ≡ expression text ts levels m c t
     expression-by some =
-        let left : opened ts levels m (c .at) .left ≡ suc (opened ts levels m (c .at) .left - 1) = rw is at (one-less some) in
+        let left : opened ts levels m (c .at) .left ≡ suc (opened ts levels m (c .at) .left - 1) = rw is at (sym (one-less (o .left) (omega arith))) in
         rw is (expression-opened levels m c t _ left)
-      where
-        one-less : (o .left ≡ 0 → ⊥) → o .left ≡ suc (o .left - 1)
-        one-less some = omega arith
 
   -- the closings of tokens `from` to `at`, as a loop has them: a tail, and then either they end or an opening is closed and they go on
   module _ (m from rest at : ℕ) where

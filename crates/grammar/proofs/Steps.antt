@@ -65,7 +65,7 @@ pub record Turning (F : ℕ → Cursor → List ℕ → Out) (o : Out) (ts t₀ 
 pub begins : (F : ℕ → Cursor → List ℕ → Out) (ts : List ℕ) (c : Cursor) (t : List ℕ) → c .at ≤ count ts → Turning F (F (fuel ts) c t) ts t c t
 begins F ts c t inside = record { size = refl; within = inside; left = count ts; enough = omega arith; same = refl }
 
-one-less : (n : ℕ) → 0 < n → suc (n - 1) ≡ n
+pub one-less : (n : ℕ) → 0 < n → suc (n - 1) ≡ n
 one-less n pos = omega arith
 
 -- it turns: a step that stands past c, and from which what is to come is what was to come from c

@@ -62,16 +62,6 @@ fn clauses(case: &Case, number: u32) -> Option<Vec<Clause>> {
     included::clauses(&case.text, &case.rows, list.len() as u64)
 }
 
-/// What comes of equal answers and a verdict.
-fn outcome(ours: String, number: u32, verdict: Verdict) -> Outcome {
-    match verdict {
-        Verdict::Other(theirs) => {
-            Outcome::Differs(format!("answer: {ours}; by the original {theirs}"))
-        }
-        verdict => Outcome::Agrees(number, verdict),
-    }
-}
-
 /// Compares `lookup` of a side with the rules and with the original.
 pub struct Lookup<'s, S>(pub &'s S);
 
@@ -87,7 +77,7 @@ impl<S: LooksUp> Comparison for Lookup<'_, S> {
         let found = (ours.0 == 0).then_some((ours.1, ours.2));
         let verdict = clauses(case, ours.0)
             .map_or(Verdict::Class(0), |made| included::looking(&made, case.clause, found));
-        outcome(format!("{ours:?}"), ours.0, verdict)
+        Outcome::of(&format!("answer: {ours:?};"), ours.0, verdict)
     }
 }
 
@@ -107,7 +97,7 @@ impl<S: LooksUp> Comparison for Value<'_, S> {
             let row = (ours.0 == 0).then_some(ours.1);
             valued(&made, case, ours.0, row)
         });
-        outcome(format!("{ours:?}"), ours.0, verdict)
+        Outcome::of(&format!("answer: {ours:?};"), ours.0, verdict)
     }
 }
 
@@ -129,10 +119,8 @@ fn valued(made: &[Clause], case: &Case, number: u32, ours: Option<[u64; 3]>) -> 
 
 impl Shrinks for Case {
     fn smaller(&self) -> Box<dyn Iterator<Item = Case> + '_> {
-        let made = Predicate { text: self.text.clone(), rows: self.rows.clone() };
-        let fewer: Vec<Predicate> = predicates::smaller(&made).collect();
-        let fewer =
-            fewer.into_iter().map(|Predicate { text, rows }| Case { text, rows, ..self.clone() });
+        let fewer = predicates::fewer(&self.text, &self.rows)
+            .map(|Predicate { text, rows }| Case { text, rows, ..self.clone() });
         let clause = lower(self.clause).map(|clause| Case { clause, ..self.clone() });
         let n = lower(self.n).map(|n| Case { n, ..self.clone() });
         Box::new(fewer.chain(clause).chain(n))

@@ -25,7 +25,8 @@ const USAGE: &str = "usage: compare parse --exhaustive LENGTH
 --parts:      every string of up to LENGTH tokens over 19, one for each part they play.
 --edges:      the limits from both sides.
 --cases:      COUNT cases by chance, the first of them number CASE (0).
-all:          all five entries in turn; without a COUNT, until it is stopped.";
+all:          all five entries in turn, ten thousand cases a turn, so COUNT is rounded up
+              to whole turns; without a COUNT, until it is stopped.";
 
 /// Which cases are compared.
 #[derive(Clone, Copy)]

@@ -49,12 +49,7 @@ impl<'s, S: Reads> Parse<'s, S> {
             true => included::reading(text, tokens, ours.0, ours.1, self.ours.seen()),
             false => Verdict::Class(0),
         };
-        match verdict {
-            Verdict::Other(theirs) => {
-                Outcome::Differs(format!("{} by the original {theirs}", said(ours)))
-            }
-            verdict => Outcome::Agrees(ours.0, verdict),
-        }
+        Outcome::of(&said(ours), ours.0, verdict)
     }
 
     /// Both tables where they part.

@@ -240,6 +240,12 @@ pub fn counts(made: &Predicate) -> (usize, usize) {
     (clauses.len(), clauses.iter().map(Vec::len).sum())
 }
 
+/// Smaller predicates than these rows over this text.
+pub fn fewer(text: &[u8], rows: &[u64]) -> std::vec::IntoIter<Predicate> {
+    let made = Predicate { text: text.to_vec(), rows: rows.to_vec() };
+    smaller(&made).collect::<Vec<_>>().into_iter()
+}
+
 /// Smaller predicates, the boldest first: an operand in the place of a row, a
 /// column in the place of a row, rows cut out, less text.
 pub fn smaller(made: &Predicate) -> Box<dyn Iterator<Item = Predicate> + '_> {

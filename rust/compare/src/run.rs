@@ -18,6 +18,16 @@ pub enum Outcome {
     Differs(String),
 }
 
+impl Outcome {
+    /// What comes of equal answers, put in words, and a verdict.
+    pub fn of(ours: &str, number: u32, verdict: Verdict) -> Self {
+        match verdict {
+            Verdict::Other(theirs) => Outcome::Differs(format!("{ours} by the original {theirs}")),
+            verdict => Outcome::Agrees(number, verdict),
+        }
+    }
+}
+
 /// A comparison of one entry.
 pub trait Comparison {
     /// What the entry is lent.

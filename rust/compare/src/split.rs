@@ -117,21 +117,14 @@ impl<S: Splits> Comparison for Split<'_, S> {
                 return Outcome::Differs(format!("{parted} {ours} by the rules {rules}"));
             }
         }
-        match self.verdict(case, ours) {
-            Verdict::Other(theirs) => {
-                Outcome::Differs(format!("answer: {ours:?}; by the original {theirs}"))
-            }
-            verdict => Outcome::Agrees(ours.0, verdict),
-        }
+        Outcome::of(&format!("answer: {ours:?};"), ours.0, self.verdict(case, ours))
     }
 }
 
 impl Shrinks for Case {
     fn smaller(&self) -> Box<dyn Iterator<Item = Case> + '_> {
-        let made = Predicate { text: self.text.clone(), rows: self.rows.clone() };
-        let fewer: Vec<Predicate> = predicates::smaller(&made).collect();
-        let fewer =
-            fewer.into_iter().map(|Predicate { text, rows }| Case { text, rows, ..self.clone() });
+        let fewer = predicates::fewer(&self.text, &self.rows)
+            .map(|Predicate { text, rows }| Case { text, rows, ..self.clone() });
         let literals = lower(self.literals).map(|literals| Case { literals, ..self.clone() });
         let ends = lower(self.ends).map(|ends| Case { ends, ..self.clone() });
         Box::new(fewer.chain(literals).chain(ends))

@@ -1,6 +1,5 @@
 -- `list_many` meets its contract: the counts are those of the definition's list, so each refusal is given in its case alone.
 -- Assumes nothing.
-use mathlib.Core.Path.{_≡_}
 use mathlib.Core.Bool.{false}
 use native.Mathlib.Omega.{arith}
 use Rattle.predicate.specs.Tree.{treeAt}

@@ -1,6 +1,5 @@
 -- `expression::atom` meets its contract: by what the token starts.
 -- Assumes nothing.
-use Rattle.tokens.specs.Token.{kindAt}
 use Rattle.grammar.specs.Operator.{startOf}
 use Rattle.grammar.specs.Memory as M
 use Rattle.grammar.proofs.Steps.{same-as, ends, atom-by}
@@ -8,8 +7,8 @@ use Rattle.grammar.proofs.Going.{start-in}
 use Rattle.grammar.proofs.Openings.{start-paren}
 use borrow.Author.Needs.{needs}
 use native.Mathlib.Omega.{arith}
-use mathlib.Core.Path.{_≡_, refl, sym, ap, _∙_}
-use Prim.Native.Nat.{ℕ, suc, _+_, _-_, _<_, _≤_}
+use mathlib.Core.Path.{refl, sym, ap, _∙_}
+use Prim.Native.Nat.{ℕ, _-_}
 use Rattle.syntax.proofs.expression.+argument+arguments+atom+closings+expression+infixed+infixes+named+tail.Proof.Measures.{atom-at, named-below}
 use Rattle.syntax.proofs.expression.atom.Reads as atom
 use Rattle.syntax.proofs.expression.named.Reads as named

@@ -1,18 +1,16 @@
 -- `expression::closings` meets its contract. The loop's invariant: what is to come from here is what was to come from the start, and with each opening
 -- that is closed a level is won back. The measure is the openings that are left.
-use mathlib.Core.List.{List}
 use lib.ListN.{length}
-use Rattle.tokens.specs.Token.{count, kindAt}
+use Rattle.tokens.specs.Token.{count}
 use Rattle.grammar.specs.Memory as M
-use Rattle.grammar.specs.Memory.{Gives}
 use Rattle.grammar.proofs.Steps.{on, refused, stays}
 use Rattle.grammar.proofs.Going.{came, tail-goes, tail-some, closed-goes, closed-some, expression-goes, expression-some}
 use Rattle.grammar.proofs.Openings.{onward-ends, onward-goes, closings-turn}
 -- Assumes nothing.
 use borrow.Author.Needs.{needs}
 use native.Mathlib.Omega.{arith}
-use mathlib.Core.Path.{_≡_, refl, sym, ap, _∙_}
-use Prim.Native.Nat.{ℕ, suc, _+_, _-_, _<_, _≤_}
+use mathlib.Core.Path.{_≡_, refl, sym, _∙_}
+use Prim.Native.Nat.{ℕ, _+_, _-_, _<_, _≤_}
 use Rattle.syntax.proofs.expression.+argument+arguments+atom+closings+expression+infixed+infixes+named+tail.Proof.Measures.{closings-at, tail-below}
 use Rattle.syntax.proofs.expression.closings.Reads as closings
 use Rattle.syntax.proofs.expression.tail.Reads as tail

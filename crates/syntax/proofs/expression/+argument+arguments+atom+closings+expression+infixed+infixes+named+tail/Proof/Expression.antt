@@ -5,8 +5,8 @@ use Rattle.grammar.proofs.Going.{came, atom-ends, atom-some, expression-goes, e
 use Rattle.grammar.proofs.Openings.{opened-is, expression-refused, expression-by}
 use borrow.Author.Needs.{needs}
 use native.Mathlib.Omega.{arith}
-use mathlib.Core.Path.{_≡_, refl, sym, ap, _∙_}
-use Prim.Native.Nat.{ℕ, suc, _+_, _-_, _<_, _≤_}
+use mathlib.Core.Path.{sym, _∙_}
+use Prim.Native.Nat.{ℕ, _-_}
 use Rattle.syntax.proofs.expression.+argument+arguments+atom+closings+expression+infixed+infixes+named+tail.Proof.Measures.{atom-below, closings-below, expression-at}
 use Rattle.syntax.proofs.expression.atom.Reads as atom
 use Rattle.syntax.proofs.expression.closings.Reads as closings

@@ -7,8 +7,8 @@ use Rattle.grammar.proofs.Steps.{on, same-as, refused, stays, while-off}
 use Rattle.grammar.proofs.Going.{came, postfixes-goes, postfixes-some, infixes-goes, infixes-some, expression-goes, expression-some}
 use borrow.Author.Needs.{needs}
 use native.Mathlib.Omega.{arith}
-use mathlib.Core.Path.{_≡_, refl, sym, ap, _∙_}
-use Prim.Native.Nat.{ℕ, suc, _+_, _-_, _<_, _≤_}
+use mathlib.Core.Path.{refl, sym, _∙_}
+use Prim.Native.Nat.{ℕ, _-_, _<_, _≤_}
 use Rattle.syntax.proofs.expression.+argument+arguments+atom+closings+expression+infixed+infixes+named+tail.Proof.Measures.{infixes-below, tail-at}
 use Rattle.syntax.proofs.expression.infixes.Reads as infixes
 use Rattle.syntax.proofs.expression.tail.Reads as tail
