@@ -3,3 +3,4 @@ pub mod Among
 pub mod Steps
 pub mod Going
 pub mod Openings
+pub mod Alone

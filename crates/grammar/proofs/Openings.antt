@@ -202,7 +202,7 @@ module _ (text ts : List ℕ) where
     unfolding expression level
     expression-on e = ap (λ (o : Out). then o (tail text ts (expression text ts levels) m)) (operand-opens (expression text ts levels) m c t e)
 
-    expression-off : opens (kindAt ts (c .at)) m ≡ false →
+    pub expression-off : opens (kindAt ts (c .at)) m ≡ false →
         expression text ts (suc levels) m c t ≡ then (atom text ts (expression text ts levels) (startOf (kindAt ts (c .at))) c t) (tail text ts (expression text ts levels) m)
     unfolding expression level
     expression-off e = ap (λ (o : Out). then o (tail text ts (expression text ts levels) m)) (operand-shut (expression text ts levels) m c t e)

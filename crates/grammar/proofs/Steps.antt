@@ -1,4 +1,4 @@
--- What the proofs of the reader share: how a step's answer goes on (`on`, `refused`, `same-as`, `ends`, `stays`), the invariant of the loops
+-- What the proofs of the reader share: how a step's answer goes on (`on`, `refused`, `same-as`, `alike`, `ends`, `stays`), the invariant of the loops
 -- (`Turning`), and the cases of each rule that passes the row table along.
 -- Assumes nothing.
 use mathlib.Core.Path.{_≡_, refl, sym, ap, _∙_}
@@ -33,6 +33,10 @@ on {r} {d} {t} {o} k e a = rw (← a .answer, e)
 -- a step that gives what is equal
 pub same-as : {r : Step} {t : List ℕ} {o u : Out} → o ≡ u → Gives o r t → Gives u r t
 same-as e a = record { answer = a .answer ∙ e }
+
+-- an equal step gives the same
+pub alike : {r s : Step} {t : List ℕ} {o : Out} → r ≡ s → Gives o s t → Gives o r t
+alike e a = rw e a
 
 -- nothing follows a step that refused: its refusal goes on as it is
 pub refused : {r : Step} {why : Refusal} {p : ℕ} {t : List ℕ} {o u : Out} (k : Cursor → List ℕ → Out) → r ≡ Refused why p → Gives o r t → then o k ≡ u → Gives u r t

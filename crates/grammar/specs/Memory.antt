@@ -4,7 +4,7 @@
 use mathlib.Core.Path.{_≡_}
 use Prim.Native.Nat.{ℕ, zero, suc, _+_, _-_, _*_}
 use mathlib.Core.List.{List}
-use mathlib.Core.Bool.{Bool, true, false}
+use mathlib.Core.Bool.{Bool, true, false, _&&_}
 use lib.Dec.{eqb, ltb, leb}
 use lib.Seq.{sets}
 use Rattle.tokens.specs.Kind as kind
@@ -20,6 +20,8 @@ use Rattle.grammar.specs.Kind as row
 use Rattle.grammar.specs.Operator.{infixOf, rightOf, prefixOf, postfixOf, binds, startOf}
 use Rattle.grammar.specs.Tree.{rowOf}
 use Rattle.grammar.specs.Rules.{needClose, needComma, needName, needNullOrNan}
+use Rattle.grammar.specs.declared.leaf.Single.{Single}
+use Rattle.grammar.specs.declared.leaf.Single.the-variants as single
 use Rattle.grammar.specs.declared.opening.Openings.{Openings}
 use Rattle.grammar.specs.declared.operator.Start.{Start}
 use Rattle.grammar.specs.declared.operator.Start.the-variants as start
@@ -83,6 +85,18 @@ fuel ts = suc (count ts)
 -- a token of kind k opens a level at the minimum m: a parenthesis, or a prefix operator
 unfoldable pub opens : ℕ → ℕ → Bool
 opens k m = elim (eqb k kind.openParen) [ true ↦ true | false ↦ binds (prefixOf k .precedence) m ]
+
+-- k lies among the operators that may follow an operand: the infix ones, and after them the postfix ones
+unfoldable pub operates : ℕ → Bool
+operates k = leb kind.OR k && leb k kind.IS
+
+-- an operand of one token ends before a token of kind k, at the minimum m: no operator of at least m follows it, and it is no call and no
+-- qualified name
+pub record Ends (k m : ℕ) : Type 0 where
+  pub noInfix : binds (infixOf k .precedence) m ≡ false
+  pub noPostfix : binds (postfixOf k) m ≡ false
+  pub paren : k ≡ kind.openParen → ⊥
+  pub period : k ≡ kind.period → ⊥
 
 abbrev pub Rec : Type 0
 Rec = ℕ → Cursor → List ℕ → Out
@@ -207,6 +221,15 @@ module _ (text ts : List ℕ) where
   closings m from rest (suc n) c t =
       let k = kindAt ts (from + n) in
       then (tail (expression rest) (prefixOf k .precedence) c t) λ c t. then (closed ts k c t) (closings m from (suc rest) n)
+
+  -- the row that r gives for token `at` is that of the Integer which the token spells
+  pub record Numbered (at : ℕ) (r : Single) : Type 0 where
+    pub says : (k x : ℕ) → r ≡ single.Row k x → (k ≡ row.integer) × (numberOf (spelled text ts at) ≡ Integer x)
+
+  -- the row that r gives for token `at` is all that an expression there comes to, at the minimum m
+  pub record Stands (m at : ℕ) (r : Single) : Type 0 where
+    pub says : (k x : ℕ) → r ≡ single.Row k x → (levels n : ℕ) (t : List ℕ) →
+        expression (suc levels) m (record { at = at; rows = n }) t ≡ leaf k x (record { at = at; rows = n }) t
 
   unfoldable pub whole : ℕ → List ℕ → Out
   whole levels t = then (expression levels 0 (record { at = 0; rows = 0 }) t) (finish ts)

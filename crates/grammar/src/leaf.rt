@@ -1,5 +1,6 @@
 // The leaves that take a look: numbers, by their bytes, and columns, by the token after the name.
 use crate::kind as row;
+use crate::operator;
 use crate::step::Cursor;
 use crate::step::Step;
 use crate::step::leaf;
@@ -13,10 +14,10 @@ use tokens::refusal::Refusal;
 use tokens::table;
 use tokens::table::kind_at;
 ghost use mathlib.Core.Path.{_≡_};
-ghost use Prim.Native.Nat.{_<_};
+ghost use Prim.Native.Nat.{_≤_, _<_};
 ghost use Rattle.tokens.specs.Token.{count, kindAt, spelled};
 ghost use Rattle.tokens.specs.Number.{numberOf};
-ghost use Rattle.grammar.specs.Memory.{Gives, numeral as numeralOf, column as columnOf};
+ghost use Rattle.grammar.specs.Memory.{Gives, numeral as numeralOf, column as columnOf, Numbered, Stands};
 
 // A number.
 pub fn numeral(text: &[u8], tokens: &[u32], rows: &mut [u64], c: Cursor) -> Step
@@ -61,4 +62,38 @@ pub fn column(tokens: &[u32], rows: &mut [u64], c: Cursor) -> Step
             y: name as u64,
         },
     )
+}
+
+// An operand of one token, by its row's kind and x; `Not` says nothing.
+pub enum Single {
+    Row(u64, u64),
+    Not,
+}
+
+// A number of digits alone.
+fn whole(text: &[u8], tokens: &[u32], at: usize) -> Single
+    ensures { λ r. ⌜ Numbered (now (text .entry)) (now (tokens .entry)) at r ⌝ }
+{
+    match number::whole_of(table::spelled(text, tokens, at)) {
+        Number::Integer(n) => Single::Row(row::INTEGER, n),
+        Number::Float => Single::Not,
+        Number::Neither => Single::Not,
+    }
+}
+
+// The operand at token `at` and the minimum `min`, where it is seen to be one token: a number, a string or a name that ends there.
+pub fn alone(text: &[u8], tokens: &[u32], at: usize, min: u32) -> Single
+    requires { ⌜ at ≤ count (now tokens) ⌝ }
+    ensures { λ r. ⌜ Stands (now (text .entry)) (now (tokens .entry)) min at r ⌝ }
+{
+    let after = at + 1;
+    if !operator::ends(kind_at(tokens, after), min) {
+        return Single::Not;
+    }
+    match kind_at(tokens, at) {
+        kind::NUMBER => whole(text, tokens, at),
+        kind::STRING => Single::Row(row::STRING, at as u64),
+        kind::IDENT => Single::Row(row::COLUMN, at as u64),
+        _ => Single::Not,
+    }
 }

@@ -2,7 +2,9 @@
 use crate::kind as row;
 use tokens::kind;
 ghost use mathlib.Core.Path.{_≡_};
-ghost use Rattle.grammar.specs.Operator.{infixOf, rightOf, prefixOf, postfixOf, binds as bindsOf, startOf};
+ghost use mathlib.Core.Bool.{true};
+ghost use Rattle.grammar.specs.Operator.{infixOf, rightOf, prefixOf, binds as bindsOf, startOf};
+ghost use Rattle.grammar.specs.Memory.{operates as operatesOf, Ends};
 
 // What an atom starts with. Plain is a whole atom: its row's kind, and x.
 pub enum Start {
@@ -116,17 +118,6 @@ pub fn prefix_row_of(k: u32) -> u64
     }
 }
 
-// The precedence of a postfix operator, and 0 for any other kind.
-pub fn postfix_of(k: u32) -> u32
-    ensures { λ r. ⌜ r ≡ postfixOf k ⌝ }
-{
-    match k {
-        kind::EXCLAMATION => 9,
-        kind::IS => 4,
-        _ => 0,
-    }
-}
-
 // Is this the precedence of an operator, and at least the minimum?
 pub fn binds(precedence: u32, min: u32) -> bool
     ensures { λ r. ⌜ r ≡ bindsOf precedence min ⌝ }
@@ -135,6 +126,32 @@ pub fn binds(precedence: u32, min: u32) -> bool
         min <= precedence
     } else {
         false
+    }
+}
+
+// Is this among the operators that may follow an operand, the infix ones and the postfix ones?
+pub fn operates(k: u32) -> bool
+    ensures { λ r. ⌜ r ≡ operatesOf k ⌝ }
+{
+    if kind::OR <= k { k <= kind::IS } else { false }
+}
+
+// Does an operand of one token end before a token of this kind, at the minimum `min`? `false` says nothing.
+pub fn ends(k: u32, min: u32) -> bool
+    ensures { λ r. ⌜ (r ≡ true → Ends k min) ⌝ }
+{
+    if k < kind::OR {
+        return true;
+    }
+    if k <= kind::CARET {
+        return precedence_of(k) < min;
+    }
+    match k {
+        kind::EXCLAMATION => false,
+        kind::IS => false,
+        kind::OPEN_PAREN => false,
+        kind::PERIOD => false,
+        _ => true,
     }
 }
 

@@ -1,8 +1,8 @@
 // Postfix operators.
 use crate::kind as row;
-use crate::operator;
 use crate::step::Cursor;
 use crate::step::Step;
+use crate::step::again;
 use crate::step::need;
 use crate::step::over;
 use tokens::kind;
@@ -54,11 +54,15 @@ fn postfix(tokens: &[u32], rows: &mut [u64], c: Cursor) -> Step
     over(rows, d, row::NOT, 0)
 }
 
-// Is the token at `at` a postfix operator of at least `min`?
+// Is the token at `at` a postfix operator of at least `min`? `!` has precedence 9, and IS 4.
 pub fn postfix_at(tokens: &[u32], at: usize, min: u32) -> bool
     ensures { λ r. ⌜ r ≡ binds (postfixOf (kindAt (now (tokens .entry)) at)) min ⌝ }
 {
-    operator::binds(operator::postfix_of(kind_at(tokens, at)), min)
+    match kind_at(tokens, at) {
+        kind::EXCLAMATION => min <= 9,
+        kind::IS => min <= 4,
+        _ => false,
+    }
 }
 
 // The postfix operators of at least `min`, while there are any.
@@ -86,8 +90,9 @@ pub fn any_postfixes(tokens: &[u32], rows: &mut [u64], c: Cursor, min: u32) -> S
     ensures { λ r. ⌜ Gives (postfixesOf (now (tokens .entry)) min c (now (rows .entry))) r (now (rows .exit)) ⌝ }
 {
     let at = c.at;
+    let n = c.rows;
     if !postfix_at(tokens, at, min) {
-        return Step::Read(c);
+        return Step::Read(Cursor { at, rows: n });
     }
-    postfixes(&*tokens, rows, c, min)
+    again(postfixes(&*tokens, rows, Cursor { at, rows: n }, min))
 }

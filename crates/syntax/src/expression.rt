@@ -4,6 +4,8 @@
 // A call that stays a call in the compiled code is lent `&*text` and `&*tokens`: so the compiler keeps a slice's two halves apart, and reads take half
 // the time.
 use grammar::kind as row;
+use grammar::leaf::Single;
+use grammar::leaf::alone;
 use grammar::leaf::column;
 use grammar::leaf::numeral;
 use grammar::opening::closed;
@@ -16,6 +18,7 @@ use grammar::postfix::postfix_at;
 use grammar::postfix::postfixes;
 use grammar::step::Cursor;
 use grammar::step::Step;
+use grammar::step::again;
 use grammar::step::leaf;
 use grammar::step::need;
 use grammar::step::put;
@@ -110,11 +113,15 @@ fn closings(
     }
 }
 
-// What follows an operand: postfix operators, infix operators, and postfix operators once more.
+// What follows an operand: postfix operators, infix operators, and postfix operators once more. Where no operator stands, one look is enough.
 fn tail(text: &[u8], tokens: &[u32], rows: &mut [u64], c: Cursor, rest: usize, min: u32) -> Step
     requires { ⌜ (c .at ≤ count (now tokens)) × (0 < c .rows) ⌝ }
     ensures { λ r. ⌜ Gives (tailOf (now (text .entry)) (now (tokens .entry)) (expressionOf (now (text .entry)) (now (tokens .entry)) rest) min c (now (rows .entry))) r (now (rows .exit)) ⌝ }
 {
+    let here = c.at;
+    if !operator::operates(kind_at(tokens, here)) {
+        return Step::Read(c);
+    }
     let first = any_postfixes(tokens, rows, c, min);
     let Step::Read(a) = first else {
         return first;
@@ -124,10 +131,11 @@ fn tail(text: &[u8], tokens: &[u32], rows: &mut [u64], c: Cursor, rest: usize, m
         return second;
     };
     let end = b.at;
+    let n = b.rows;
     if !postfix_at(tokens, end, min) {
-        return Step::Read(b);
+        return Step::Read(Cursor { at: end, rows: n });
     }
-    postfixes(&*tokens, rows, b, min)
+    again(postfixes(&*tokens, rows, Cursor { at: end, rows: n }, min))
 }
 
 // A name: a function, where a parenthesis opens after it, else a column.
@@ -192,13 +200,13 @@ fn argument(text: &[u8], tokens: &[u32], rows: &mut [u64], c: Cursor, rest: usiz
     ensures { λ r. ⌜ Gives (argumentOf (now (text .entry)) (now (tokens .entry)) (expressionOf (now (text .entry)) (now (tokens .entry)) rest) n c (now (rows .entry))) r (now (rows .exit)) ⌝ }
 {
     if n == 0 {
-        return expression(&*text, &*tokens, rows, c, rest, 0);
+        return again(expression(&*text, &*tokens, rows, c, rest, 0));
     }
     let s = need(tokens, c, kind::COMMA, Refusal::WrongToken);
     let Step::Read(d) = s else {
         return s;
     };
-    expression(&*text, &*tokens, rows, d, rest, 0)
+    again(expression(&*text, &*tokens, rows, d, rest, 0))
 }
 
 // The infix operators of at least `min` with their right sides, while there are any.
@@ -244,9 +252,9 @@ fn infixed(text: &[u8], tokens: &[u32], rows: &mut [u64], c: Cursor, rest: usize
     let k = kind_at(tokens, at);
     let left = n - 1;
     let after = at + 1;
-    let s = expression(
-        &*text,
-        &*tokens,
+    let s = right(
+        text,
+        tokens,
         rows,
         Cursor { at: after, rows: n },
         rest,
@@ -265,4 +273,19 @@ fn infixed(text: &[u8], tokens: &[u32], rows: &mut [u64], c: Cursor, rest: usize
             y: right as u64,
         },
     )
+}
+
+// A right side, at the minimum `min`. Most often it is one token, and then takes no call.
+fn right(text: &[u8], tokens: &[u32], rows: &mut [u64], c: Cursor, levels: usize, min: u32) -> Step
+    requires { ⌜ c .at ≤ count (now tokens) ⌝ }
+    ensures { λ r. ⌜ Gives (expressionOf (now (text .entry)) (now (tokens .entry)) levels min c (now (rows .entry))) r (now (rows .exit)) ⌝ }
+{
+    let at = c.at;
+    if levels == 0 {
+        return Step::Refused(Refusal::TooDeep, at);
+    }
+    match alone(text, tokens, at, min) {
+        Single::Row(kind, x) => leaf(rows, c, kind, x),
+        Single::Not => again(expression(&*text, &*tokens, rows, c, levels, min)),
+    }
 }

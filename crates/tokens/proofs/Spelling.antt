@@ -11,11 +11,11 @@ use lib.Dec.{leb, ltb, eqb}
 use lib.ListN.{length, getD, drop, length-drop, drop-of-length-le}
 use lib.Seq.{drop-cons}
 use Rattle.tokens.specs.Number.{digit, begins, ended, pastDigits, digits, pastFraction, pastSign, exponent, valueFrom, integerOf, numberOf}
-use Rattle.tokens.specs.Run.{held, leading, Past, Digits}
+use Rattle.tokens.specs.Run.{held, leading, Past, Digits, Whole}
 use Rattle.tokens.specs.Limits.{integerMax}
 use Rattle.tokens.specs.declared.number.Run.{Run}
 use Rattle.tokens.specs.declared.number.Number.{Number}
-use Rattle.tokens.specs.declared.number.Number.the-variants.{Float, Neither}
+use Rattle.tokens.specs.declared.number.Number.the-variants.{Integer, Float, Neither}
 
 -- what a digit is
 pub digit-in : (b : ℕ) → digit b ≡ true → (48 ≤ b) × (b ≤ 57)
@@ -299,3 +299,15 @@ module _ (s : List ℕ) (r : Run) (run : Digits s 0 r) where
 
     pub run-bad : exponent (drop at s) ≡ false → Neither ≡ numberOf s
     run-bad e = sym (number-bad s (run-some s 0 r run (omega arith)) (run-part s 0 r run more) (rest false e))
+
+-- the cases of `Whole`
+pub whole-unsaid : (s : List ℕ) → Whole s Neither
+whole-unsaid s =
+    record {
+      integer = λ n e.
+          let no-way : _≡_ {A = ℕ} 0 1 = cc in
+          absurd (omega arith);
+    }
+
+pub whole-said : (s : List ℕ) (r : Number) → r ≡ numberOf s → Whole s r
+whole-said s r is = record { integer = λ n e. sym is ∙ e }

@@ -4,7 +4,9 @@ use Prim.Native.Nat.{ℕ, _≤_, min}
 use mathlib.Core.Bool.{true, false}
 use mathlib.Core.List.{List, [], _∷_}
 use lib.ListN.{length, drop}
-use Rattle.tokens.specs.Number.{digit, pastDigits, valueFrom}
+use Rattle.tokens.specs.Number.{digit, pastDigits, valueFrom, numberOf}
+use Rattle.tokens.specs.declared.number.Number.{Number}
+use Rattle.tokens.specs.declared.number.Number.the-variants.{Integer}
 use Rattle.tokens.specs.declared.number.Run.{Run}
 
 -- where a value past the largest Integer is held
@@ -26,3 +28,7 @@ pub record Past (past : List ℕ → List ℕ) (s : List ℕ) (at r : ℕ) : Typ
 pub record Digits (s : List ℕ) (from : ℕ) (r : Run) : Type 0 where
   pub end : Past pastDigits s from (r .end)
   pub value : r .value ≡ min (valueFrom 0 (leading (drop from s))) held
+
+-- r is an Integer only where the spelling is that Integer
+pub record Whole (s : List ℕ) (r : Number) : Type 0 where
+  pub integer : (n : ℕ) → r ≡ Integer n → numberOf s ≡ Integer n

@@ -4,7 +4,7 @@ ghost use mathlib.Core.Path.{_≡_};
 ghost use Prim.Native.Nat.{_+_, _-_, _*_, _≤_, min};
 ghost use lib.ListN.{length, drop};
 ghost use Rattle.tokens.specs.Number.{digit as digitOf, digits as digitsOf, pastFraction, pastSign, exponent, integerOf, numberOf};
-ghost use Rattle.tokens.specs.Run.{held, Digits, Past};
+ghost use Rattle.tokens.specs.Run.{held, Digits, Past, Whole};
 
 pub enum Number {
     Integer(u64),
@@ -30,13 +30,15 @@ fn grown(value: u64, b: u8) -> u64
     ensures { λ r. ⌜ r ≡ min (value * 10 + (b - 48)) held ⌝ }
 {
     let unit = (b - 48) as u64;
-    if value <= INTEGER_MAX / 10 {
-        let more = value * 10 + unit;
-        if more <= INTEGER_MAX {
-            more
-        } else {
-            INTEGER_MAX + 1
-        }
+    if value < INTEGER_MAX / 10 {
+        return value * 10 + unit;
+    }
+    if INTEGER_MAX / 10 < value {
+        return INTEGER_MAX + 1;
+    }
+    let more = value * 10 + unit;
+    if more <= INTEGER_MAX {
+        more
     } else {
         INTEGER_MAX + 1
     }
@@ -159,4 +161,20 @@ pub fn number_of(s: &[u8]) -> Number
     } else {
         Number::Neither
     }
+}
+
+// An Integer with its value, where the spelling is one; `Neither` says nothing.
+pub fn whole_of(s: &[u8]) -> Number
+    ensures { λ r. ⌜ Whole (now (s .entry)) r ⌝ }
+{
+    let run = digits(s, 0);
+    let end = run.end;
+    let value = run.value;
+    if end == 0 {
+        return Number::Neither;
+    }
+    if end != s.len() {
+        return Number::Neither;
+    }
+    integer(value)
 }

@@ -3,14 +3,15 @@
 use std::hint::black_box;
 use std::time::{Duration, Instant};
 
-/// How often the figures of a row are taken in turn.
-const ROUNDS: usize = 4;
+/// How often the figures of a row are taken in turn. Many short turns, so that a
+/// busy second of the machine falls on every figure and not on one.
+const ROUNDS: usize = 24;
 
 /// How many batches are timed at most, each time.
-const BATCHES: usize = 1_000;
+const BATCHES: usize = 200;
 
 /// What these batches may take together.
-const PATIENCE: Duration = Duration::from_millis(60);
+const PATIENCE: Duration = Duration::from_millis(12);
 
 /// How many calls make a batch, if one call has to do with so many things
 /// (tokens, rows): enough for the clock, few enough to keep their results.
@@ -30,7 +31,7 @@ pub fn nanoseconds<A, B>(
     let mut best = f64::INFINITY;
     let begun = Instant::now();
     for batch in 0..BATCHES {
-        if batch > 10 && begun.elapsed() > PATIENCE {
+        if batch > 3 && begun.elapsed() > PATIENCE {
             break;
         }
         let prepared: Vec<A> = (0..calls).map(|_| prepare()).collect();

@@ -3,7 +3,7 @@
 use mathlib.Core.Path.{sym, _∙_}
 use borrow.Author.Tests.{not-true}
 use Rattle.grammar.specs.Memory.{postfixes}
-use Rattle.grammar.proofs.Steps.{stays, while-off}
+use Rattle.grammar.proofs.Steps.{alike, stays, while-off}
 use borrow.Author.Needs.{needs}
 use Rattle.grammar.proofs.postfix.any_postfixes.Statement.{statement}
 use Rattle.grammar.proofs.postfix.any_postfixes.Tie as tie
@@ -18,12 +18,15 @@ returns c = stays (while-off _ _ _ _ _ (sym (c .before .postfix-at .ensures) ∙
 postfixes-requires : tie.Need-postfixes-requires
 postfixes-requires c κs = search needs
 
+again-requires : tie.Need-again-requires
+again-requires c κs = search needs
+
 same-length : tie.Need-same-length
 same-length c = search needs
 
 returns-2 : tie.Need-returns-2
-returns-2 c = search needs
+returns-2 c = alike (c .again .ensures) (c .before .before .before .postfixes .ensures)
 
 pub any-postfixes-spec : {M : Type 1} → statement M
 any-postfixes-spec =
-    tie.close (tie.spec postfix-at-requires returns postfixes-requires same-length returns-2)
+    tie.close (tie.spec postfix-at-requires returns postfixes-requires again-requires same-length returns-2)

@@ -1,8 +1,9 @@
--- `postfix::postfix_at` meets its contract: by what it calls.
+-- `postfix::postfix_at` meets its contract: each arm is an entry of the table.
 -- Assumes nothing.
-use mathlib.Core.Path.{ap, _∙_}
+use mathlib.Core.Path.{sym, ap, _∙_}
 use Prim.Native.Nat.{ℕ}
-use Rattle.grammar.specs.Operator.{postfixOf, binds}
+use Rattle.grammar.specs.Operator.{among, postfixTable, postfixOf, binds}
+use Rattle.grammar.proofs.Among.{not-among}
 use borrow.Author.Needs.{needs}
 use Rattle.grammar.proofs.postfix.postfix_at.Statement.{statement}
 use Rattle.grammar.proofs.postfix.postfix_at.Tie as tie
@@ -10,14 +11,17 @@ use Rattle.grammar.proofs.postfix.postfix_at.Tie as tie
 kind-at-requires : tie.Need-kind-at-requires
 kind-at-requires c κs = search needs
 
-postfix-of-requires : tie.Need-postfix-of-requires
-postfix-of-requires c κs = search needs
-
-binds-requires : tie.Need-binds-requires
-binds-requires c κs = search needs
-
 returns : tie.Need-returns
-returns c = c .binds .ensures ∙ ap (λ (p : ℕ). binds p (c .before .before .before .before .args .min)) (c .before .postfix-of .ensures ∙ ap postfixOf (c .before .before .kind-at .ensures))
+unfolding postfixOf among binds
+returns c = sym (ap (λ (k : ℕ). binds (postfixOf k) (c .before .before .before .args .min)) (sym (c .before .kind-at .ensures) ∙ c .match .keys1))
+
+returns-2 : tie.Need-returns-2
+unfolding postfixOf among binds
+returns-2 c = sym (ap (λ (k : ℕ). binds (postfixOf k) (c .before .before .before .args .min)) (sym (c .before .kind-at .ensures) ∙ c .match .keys2))
+
+returns-3 : tie.Need-returns-3
+unfolding postfixOf among binds
+returns-3 c = sym (ap (λ (p : ℕ). binds p (c .before .before .before .args .min)) (sym (ap postfixOf (c .before .kind-at .ensures)) ∙ not-among _ 0 postfixTable (c .match .rest)))
 
 pub postfix-at-spec : {M : Type 1} → statement M
-postfix-at-spec = tie.close (tie.spec kind-at-requires postfix-of-requires binds-requires returns)
+postfix-at-spec = tie.close (tie.spec kind-at-requires returns returns-2 returns-3)

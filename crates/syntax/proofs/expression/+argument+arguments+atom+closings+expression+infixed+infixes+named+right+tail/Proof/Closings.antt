@@ -11,13 +11,13 @@ use borrow.Author.Needs.{needs}
 use native.Mathlib.Omega.{arith}
 use mathlib.Core.Path.{_≡_, refl, sym, _∙_}
 use Prim.Native.Nat.{ℕ, _+_, _-_, _<_, _≤_}
-use Rattle.syntax.proofs.expression.+argument+arguments+atom+closings+expression+infixed+infixes+named+tail.Proof.Measures.{closings-at, tail-below}
+use Rattle.syntax.proofs.expression.+argument+arguments+atom+closings+expression+infixed+infixes+named+right+tail.Proof.Measures.{closings-at, tail-below}
 use Rattle.syntax.proofs.expression.closings.Reads as closings
 use Rattle.syntax.proofs.expression.tail.Reads as tail
 use Rattle.grammar.proofs.opening.closed.Reads as closed-reads
 use Rattle.grammar.proofs.opening.minimum.Reads as minimum-reads
 use Rattle.tokens.proofs.table.kind_at.Reads as kind-at-reads
-use Rattle.syntax.proofs.expression.+argument+arguments+atom+closings+expression+infixed+infixes+named+tail.Lts-closings as closings-lts
+use Rattle.syntax.proofs.expression.+argument+arguments+atom+closings+expression+infixed+infixes+named+right+tail.Lts-closings as closings-lts
 
 -- what is known of the functions that it calls
 abbrev calls : ℕ → closings-lts.Claims

@@ -10,12 +10,12 @@ use borrow.Author.Needs.{needs}
 use native.Mathlib.Omega.{arith}
 use mathlib.Core.Path.{_≡_, sym, _∙_}
 use Prim.Native.Nat.{ℕ, _+_, _-_, _≤_}
-use Rattle.syntax.proofs.expression.+argument+arguments+atom+closings+expression+infixed+infixes+named+tail.Proof.Measures.{argument-below, arguments-at}
+use Rattle.syntax.proofs.expression.+argument+arguments+atom+closings+expression+infixed+infixes+named+right+tail.Proof.Measures.{argument-below, arguments-at}
 use Rattle.syntax.proofs.expression.argument.Reads as argument
 use Rattle.syntax.proofs.expression.arguments.Reads as arguments
 use Rattle.grammar.proofs.step.put.Reads as put-reads
 use Rattle.tokens.proofs.table.kind_at.Reads as kind-at-reads
-use Rattle.syntax.proofs.expression.+argument+arguments+atom+closings+expression+infixed+infixes+named+tail.Lts-arguments as arguments-lts
+use Rattle.syntax.proofs.expression.+argument+arguments+atom+closings+expression+infixed+infixes+named+right+tail.Lts-arguments as arguments-lts
 
 -- what is known of the functions that it calls
 abbrev calls : ℕ → arguments-lts.Claims

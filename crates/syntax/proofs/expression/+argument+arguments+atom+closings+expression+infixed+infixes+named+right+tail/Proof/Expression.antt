@@ -7,12 +7,12 @@ use borrow.Author.Needs.{needs}
 use native.Mathlib.Omega.{arith}
 use mathlib.Core.Path.{sym, _∙_}
 use Prim.Native.Nat.{ℕ, _-_}
-use Rattle.syntax.proofs.expression.+argument+arguments+atom+closings+expression+infixed+infixes+named+tail.Proof.Measures.{atom-below, closings-below, expression-at}
+use Rattle.syntax.proofs.expression.+argument+arguments+atom+closings+expression+infixed+infixes+named+right+tail.Proof.Measures.{atom-below, closings-below, expression-at}
 use Rattle.syntax.proofs.expression.atom.Reads as atom
 use Rattle.syntax.proofs.expression.closings.Reads as closings
 use Rattle.syntax.proofs.expression.expression.Reads as expression
 use Rattle.grammar.proofs.opening.opened.Reads as opened-reads
-use Rattle.syntax.proofs.expression.+argument+arguments+atom+closings+expression+infixed+infixes+named+tail.Lts-expression as expression-lts
+use Rattle.syntax.proofs.expression.+argument+arguments+atom+closings+expression+infixed+infixes+named+right+tail.Lts-expression as expression-lts
 
 -- what is known of the functions that it calls
 abbrev calls : ℕ → expression-lts.Claims

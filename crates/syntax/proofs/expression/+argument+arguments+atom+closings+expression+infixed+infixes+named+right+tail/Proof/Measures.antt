@@ -11,6 +11,7 @@ use Rattle.syntax.proofs.expression.expression.Reads as expression
 use Rattle.syntax.proofs.expression.infixed.Reads as infixed
 use Rattle.syntax.proofs.expression.infixes.Reads as infixes
 use Rattle.syntax.proofs.expression.named.Reads as named
+use Rattle.syntax.proofs.expression.right.Reads as right
 use Rattle.syntax.proofs.expression.tail.Reads as tail
 use Rattle.syntax.proofs.expression.argument.Kinds as argument-kinds
 use Rattle.syntax.proofs.expression.arguments.Kinds as arguments-kinds
@@ -20,6 +21,7 @@ use Rattle.syntax.proofs.expression.expression.Kinds as expression-kind
 use Rattle.syntax.proofs.expression.infixed.Kinds as infixed-kinds
 use Rattle.syntax.proofs.expression.infixes.Kinds as infixes-kinds
 use Rattle.syntax.proofs.expression.named.Kinds as named-kinds
+use Rattle.syntax.proofs.expression.right.Kinds as right-kinds
 use Rattle.syntax.proofs.expression.tail.Kinds as tail-kinds
 
 abbrev pub μ-argument : Measures 3 argument-kinds.ps ℕ
@@ -32,22 +34,25 @@ abbrev pub μ-atom : Measures 3 atom-kinds.ps ℕ
 μ-atom κs a = 8 * a .1 .1 .1 .1 .0 + 6
 
 abbrev pub μ-closings : Measures 3 closings-kinds.ps ℕ
-μ-closings κs a = 8 * (a .1 .1 .1 .1 .0 + (a .1 .1 .1 .1 .1 .1 .0 - a .1 .1 .1 .1 .1 .0)) + 4
+μ-closings κs a = 8 * (a .1 .1 .1 .1 .0 + (a .1 .1 .1 .1 .1 .1 .0 - a .1 .1 .1 .1 .1 .0)) + 5
 
 abbrev pub μ-expression : Measures 3 expression-kinds.ps ℕ
 μ-expression κs a = 8 * a .1 .1 .1 .1 .0
 
 abbrev pub μ-infixed : Measures 3 infixed-kinds.ps ℕ
-μ-infixed κs a = 8 * a .1 .1 .1 .1 .0 + 1
+μ-infixed κs a = 8 * a .1 .1 .1 .1 .0 + 2
 
 abbrev pub μ-infixes : Measures 3 infixes-kinds.ps ℕ
-μ-infixes κs a = 8 * a .1 .1 .1 .1 .0 + 2
+μ-infixes κs a = 8 * a .1 .1 .1 .1 .0 + 3
 
 abbrev pub μ-named : Measures 3 named-kinds.ps ℕ
 μ-named κs a = 8 * a .1 .1 .1 .1 .0 + 5
 
+abbrev pub μ-right : Measures 3 right-kinds.ps ℕ
+μ-right κs a = 8 * a .1 .1 .1 .1 .0 + 1
+
 abbrev pub μ-tail : Measures 3 tail-kinds.ps ℕ
-μ-tail κs a = 8 * a .1 .1 .1 .1 .0 + 3
+μ-tail κs a = 8 * a .1 .1 .1 .1 .0 + 4
 
 abbrev pub argument-at : ℕ → In 3 argument-kinds.ps
 argument-at t = and 3 argument-kinds.ps (is 3 argument-kinds.ps μ-argument t) argument.Pre
@@ -101,6 +106,12 @@ named-at t = and 3 named-kinds.ps (is 3 named-kinds.ps μ-named t) named.Pre
 
 abbrev pub named-below : ℕ → In 3 named-kinds.ps
 named-below t = and 3 named-kinds.ps (falls 3 named-kinds.ps _<_ μ-named t) named.Pre
+
+abbrev pub right-at : ℕ → In 3 right-kinds.ps
+right-at t = and 3 right-kinds.ps (is 3 right-kinds.ps μ-right t) right.Pre
+
+abbrev pub right-below : ℕ → In 3 right-kinds.ps
+right-below t = and 3 right-kinds.ps (falls 3 right-kinds.ps _<_ μ-right t) right.Pre
 
 abbrev pub tail-at : ℕ → In 3 tail-kinds.ps
 tail-at t = and 3 tail-kinds.ps (is 3 tail-kinds.ps μ-tail t) tail.Pre

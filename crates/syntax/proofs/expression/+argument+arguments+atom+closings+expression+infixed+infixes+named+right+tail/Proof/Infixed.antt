@@ -11,18 +11,18 @@ use borrow.Author.Needs.{needs}
 use native.Mathlib.Omega.{arith}
 use mathlib.Core.Path.{refl, sym}
 use Prim.Native.Nat.{ℕ, _-_}
-use Rattle.syntax.proofs.expression.+argument+arguments+atom+closings+expression+infixed+infixes+named+tail.Proof.Measures.{expression-below, infixed-at}
-use Rattle.syntax.proofs.expression.expression.Reads as expression
+use Rattle.syntax.proofs.expression.+argument+arguments+atom+closings+expression+infixed+infixes+named+right+tail.Proof.Measures.{infixed-at, right-below}
 use Rattle.syntax.proofs.expression.infixed.Reads as infixed
+use Rattle.syntax.proofs.expression.right.Reads as right
 use Rattle.grammar.proofs.operator.right_of.Reads as right-of-reads
 use Rattle.grammar.proofs.operator.row_of.Reads as row-of-reads
 use Rattle.grammar.proofs.step.put.Reads as put-reads
 use Rattle.tokens.proofs.table.kind_at.Reads as kind-at-reads
-use Rattle.syntax.proofs.expression.+argument+arguments+atom+closings+expression+infixed+infixes+named+tail.Lts-infixed as infixed-lts
+use Rattle.syntax.proofs.expression.+argument+arguments+atom+closings+expression+infixed+infixes+named+right+tail.Lts-infixed as infixed-lts
 
 -- what is known of the functions that it calls
 abbrev calls : ℕ → infixed-lts.Claims
-calls t = (kind-at-reads.Asked, kind-at-reads.Learnt, right-of-reads.Asked, right-of-reads.Learnt, expression-below t, expression.Post, row-of-reads.Asked, row-of-reads.Learnt, put-reads.Asked, put-reads.Learnt)
+calls t = (kind-at-reads.Asked, kind-at-reads.Learnt, right-of-reads.Asked, right-of-reads.Learnt, right-below t, right.Post, row-of-reads.Asked, row-of-reads.Learnt, put-reads.Asked, put-reads.Learnt)
 
 pub infixed-kind-at-requires : (t : ℕ) → infixed-lts.Need-kind-at-requires (calls t) (infixed-at t) infixed.Post
 infixed-kind-at-requires t c κs = search needs
@@ -36,8 +36,8 @@ infixed-add-after t c = omega (arith, c .before .before .before .before .pre .1 
 pub infixed-right-of-requires : (t : ℕ) → infixed-lts.Need-right-of-requires (calls t) (infixed-at t) infixed.Post
 infixed-right-of-requires t c κs = search needs
 
-pub infixed-expression-requires : (t : ℕ) → infixed-lts.Need-expression-requires (calls t) (infixed-at t) infixed.Post
-infixed-expression-requires t c κs = (omega (arith, c .before .before .before .before .before .before .pre .0), omega (arith, c .before .before .before .before .before .before .pre .1 .0))
+pub infixed-right-requires : (t : ℕ) → infixed-lts.Need-right-requires (calls t) (infixed-at t) infixed.Post
+infixed-right-requires t c κs = (omega (arith, c .before .before .before .before .before .before .pre .0), omega (arith, c .before .before .before .before .before .before .pre .1 .0))
 
 pub infixed-enum-known-s : (t : ℕ) → infixed-lts.Need-enum-known-s (calls t) (infixed-at t) infixed.Post
 infixed-enum-known-s t c = search needs
@@ -49,15 +49,15 @@ pub infixed-same-length : (t : ℕ) → infixed-lts.Need-same-length (calls t) (
 infixed-same-length t c = search needs
 
 -- the right side
-inner : (t : ℕ) (c : infixed-lts.After-expression (calls t) (infixed-at t) infixed.Post) → Gives (M.expression (c .before .before .before .before .before .before .before .args .text .now) (c .before .before .before .before .before .before .before .args .tokens .now) (c .before .before .before .before .before .before .before .args .rest) (rightOf (kindAt (c .before .before .before .before .before .before .before .args .tokens .now) (c .before .before .before .before .before .before .before .args .c .at))) (M.past 1 (c .before .before .before .before .before .before .before .args .c)) (c .before .before .before .before .before .before .before .args .rows .now)) (c .expression .result) (c .expression .last .1 .1 .0)
-inner t c = rw (c .before .right-of .ensures, c .before .before .before .kind-at .ensures) at (c .expression .ensures)
+inner : (t : ℕ) (c : infixed-lts.After-right (calls t) (infixed-at t) infixed.Post) → Gives (M.expression (c .before .before .before .before .before .before .before .args .text .now) (c .before .before .before .before .before .before .before .args .tokens .now) (c .before .before .before .before .before .before .before .args .rest) (rightOf (kindAt (c .before .before .before .before .before .before .before .args .tokens .now) (c .before .before .before .before .before .before .before .args .c .at))) (M.past 1 (c .before .before .before .before .before .before .before .args .c)) (c .before .before .before .before .before .before .before .args .rows .now)) (c .right .result) (c .right .last .1 .1 .0)
+inner t c = rw (c .before .right-of .ensures, c .before .before .before .kind-at .ensures) at (c .right .ensures)
 
 pub infixed-returns : (t : ℕ) → infixed-lts.Need-returns (calls t) (infixed-at t) infixed.Post
 unfolding M.infixed
 infixed-returns t c = refused _ (c .enum-told .given .1) (inner t (c .before .before .before .before)) refl
 
 pub infixed-sub-right : (t : ℕ) → infixed-lts.Need-sub-right (calls t) (infixed-at t) infixed.Post
-infixed-sub-right t c = omega (arith, came (c .before .before .s .given .1) (c .before .before .before .before .before .before .expression .ensures) (expression-some _ _ _ _ _ _))
+infixed-sub-right t c = omega (arith, came (c .before .before .s .given .1) (c .before .before .before .before .before .before .right .ensures) (expression-some _ _ _ _ _ _))
 
 pub infixed-row-of-requires : (t : ℕ) → infixed-lts.Need-row-of-requires (calls t) (infixed-at t) infixed.Post
 infixed-row-of-requires t c κs = search needs
@@ -69,7 +69,7 @@ pub infixed-same-length-2 : (t : ℕ) → infixed-lts.Need-same-length-2 (calls 
 infixed-same-length-2 t c = search needs
 
 -- the operator's row
-row : (t : ℕ) (c : infixed-lts.After-put (calls t) (infixed-at t) infixed.Post) → Gives (M.put (rowOf (infixOf (kindAt (c .before .before .before .before .before .before .before .before .before .before .before .before .before .before .before .before .args .tokens .now) (c .before .before .before .before .before .before .before .before .before .before .before .before .before .before .before .before .args .c .at)) .row) (c .before .before .before .before .before .before .before .before .before .before .before .before .before .before .before .before .args .c .rows - 1) (c .before .before .before .before .before .s .given .0 .0 .rows - 1)) (c .before .before .before .before .before .s .given .0 .0) (c .before .before .before .before .before .before .before .before .before .expression .last .1 .1 .0)) (c .put .result) (c .put .last .0)
+row : (t : ℕ) (c : infixed-lts.After-put (calls t) (infixed-at t) infixed.Post) → Gives (M.put (rowOf (infixOf (kindAt (c .before .before .before .before .before .before .before .before .before .before .before .before .before .before .before .before .args .tokens .now) (c .before .before .before .before .before .before .before .before .before .before .before .before .before .before .before .before .args .c .at)) .row) (c .before .before .before .before .before .before .before .before .before .before .before .before .before .before .before .before .args .c .rows - 1) (c .before .before .before .before .before .s .given .0 .0 .rows - 1)) (c .before .before .before .before .before .s .given .0 .0) (c .before .before .before .before .before .before .before .before .before .right .last .1 .1 .0)) (c .put .result) (c .put .last .0)
 row t c = rw (c .before .row-of .ensures, c .before .before .before .before .before .before .before .before .before .before .before .before .kind-at .ensures) at (c .put .ensures)
 
 pub infixed-returns-2 : (t : ℕ) → infixed-lts.Need-returns-2 (calls t) (infixed-at t) infixed.Post

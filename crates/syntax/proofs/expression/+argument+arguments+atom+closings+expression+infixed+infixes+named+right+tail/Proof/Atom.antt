@@ -9,14 +9,14 @@ use borrow.Author.Needs.{needs}
 use native.Mathlib.Omega.{arith}
 use mathlib.Core.Path.{refl, sym, ap, _∙_}
 use Prim.Native.Nat.{ℕ, _-_}
-use Rattle.syntax.proofs.expression.+argument+arguments+atom+closings+expression+infixed+infixes+named+tail.Proof.Measures.{atom-at, named-below}
+use Rattle.syntax.proofs.expression.+argument+arguments+atom+closings+expression+infixed+infixes+named+right+tail.Proof.Measures.{atom-at, named-below}
 use Rattle.syntax.proofs.expression.atom.Reads as atom
 use Rattle.syntax.proofs.expression.named.Reads as named
 use Rattle.grammar.proofs.leaf.numeral.Reads as numeral-reads
 use Rattle.grammar.proofs.operator.start_of.Reads as start-of-reads
 use Rattle.grammar.proofs.step.leaf.Reads as leaf-reads
 use Rattle.tokens.proofs.table.kind_at.Reads as kind-at-reads
-use Rattle.syntax.proofs.expression.+argument+arguments+atom+closings+expression+infixed+infixes+named+tail.Lts-atom as atom-lts
+use Rattle.syntax.proofs.expression.+argument+arguments+atom+closings+expression+infixed+infixes+named+right+tail.Lts-atom as atom-lts
 
 -- what is known of the functions that it calls
 abbrev calls : ℕ → atom-lts.Claims

@@ -1,0 +1,177 @@
+-- Operands of one token: where no operator follows, an operand's tail is nothing (`tail-off`); so where an atom is a leaf and ends, the
+-- expression is that leaf (`alone-number`, `alone-string`, `alone-name`).
+-- Assumes nothing.
+use mathlib.Core.Path.{_≡_, refl, sym, ap, _∙_}
+use mathlib.Core.Bool.{Bool, true, false, _&&_}
+use mathlib.Core.List.{List}
+use Prim.Native.Nat.{ℕ, suc, _+_, _≤_, _<_}
+use native.Mathlib.Omega.{arith}
+use borrow.Author.Tests.{lt-leb, leb-true, leb-false}
+use lib.Dec.{leb, ltb}
+use Rattle.tokens.specs.Kind as kind
+use Rattle.tokens.specs.Token.{count, kindAt, spelled}
+use Rattle.tokens.specs.Number.{numberOf}
+use Rattle.tokens.specs.declared.number.Number.{Number}
+use Rattle.tokens.specs.declared.number.Number.the-variants.{Integer}
+use Rattle.rows.specs.Layout.{capacity}
+use Rattle.grammar.specs.Kind as row
+use Rattle.grammar.specs.Operator.{Operator, no, infixTable, infixOf, postfixTable, postfixOf, prefixOf, binds, among, startOf}
+use Rattle.grammar.specs.Tree.{rowOf}
+use Rattle.grammar.specs.Memory.{Out, done, then, past, leaf, numeral, operates, Ends, opens, Rec, postfixes, infixes, infixed, postfix, atom, named, tail, expression, fuel, Numbered, Stands}
+use Rattle.grammar.specs.declared.leaf.Single.{Single}
+use Rattle.grammar.specs.declared.leaf.Single.the-variants as single
+use Rattle.grammar.specs.declared.operator.Start.the-variants as start
+use Rattle.grammar.specs.declared.step.Cursor.{Cursor}
+use Rattle.grammar.proofs.Among.{not-among, within, among-outside}
+use Rattle.grammar.proofs.Steps.{while-off, put-full, put-room, atom-by, named-column, column-plain}
+use Rattle.grammar.proofs.Openings.{expression-off}
+
+-- the parts of an answer
+abbrev kind-of : Single → ℕ
+kind-of (single.Row k x) = k
+kind-of single.Not = 0
+
+abbrev x-of : Single → ℕ
+x-of (single.Row k x) = x
+x-of single.Not = 0
+
+not-row : {k x : ℕ} → single.Not ≡ single.Row k x → ⊥
+not-row e = let z : _≡_ {A = ℕ} 0 1 = cc in omega arith
+
+-- what does not bind
+binds-none : (m : ℕ) → binds 0 m ≡ false
+unfolding binds
+binds-none m = refl
+
+binds-less : (p m : ℕ) → p < m → binds p m ≡ false
+unfolding binds
+binds-less p m lt = rw (lt-leb m p lt) (by (ltb 0 p))
+  where
+    by : (b : Bool) → (b && false) ≡ false
+    by true = refl
+    by false = refl
+
+-- outside their kinds there are no operators
+module _ (k m : ℕ) where
+  no-infix : ((kind.OR ≤ k) × (k ≤ kind.caret) → ⊥) → binds (infixOf k .precedence) m ≡ false
+  unfolding infixOf within
+  no-infix out = rw (among-outside kind.OR kind.caret k no infixTable refl out) (binds-none m)
+
+  no-postfix : ((kind.exclamation ≤ k) × (k ≤ kind.IS) → ⊥) → binds (postfixOf k) m ≡ false
+  unfolding postfixOf within
+  no-postfix out = rw (among-outside kind.exclamation kind.IS k 0 postfixTable refl out) (binds-none m)
+
+  pub operates-not : operates k ≡ false → (binds (infixOf k .precedence) m ≡ false) × (binds (postfixOf k) m ≡ false)
+  unfolding operates
+  operates-not e = by (leb kind.OR k) (leb k kind.IS) refl refl e
+    where
+      by : (p q : Bool) → leb kind.OR k ≡ p → leb k kind.IS ≡ q → (p && q) ≡ false → (binds (infixOf k .precedence) m ≡ false) × (binds (postfixOf k) m ≡ false)
+      by true true f g h = let z : _≡_ {A = ℕ} 0 1 = cc in absurd (omega arith)
+      by true false f g h =
+          let past = leb-false k kind.IS g in
+          (no-infix (λ i. omega (arith, past, i .1)), no-postfix (λ i. omega (arith, past, i .1)))
+      by false q f g h =
+          let before = leb-false kind.OR k f in
+          (no-infix (λ i. omega (arith, before, i .0)), no-postfix (λ i. omega (arith, before, i .0)))
+
+  -- the cases of `Ends`
+  pub ends-before : k < kind.OR → Ends k m
+  ends-before lt =
+      record {
+        noInfix = no-infix (λ i. omega (arith, lt, i .0));
+        noPostfix = no-postfix (λ i. omega (arith, lt, i .0));
+        paren = λ e. omega (arith, lt, e);
+        period = λ e. omega (arith, lt, e);
+      }
+
+  pub ends-lower : k ≤ kind.caret → infixOf k .precedence < m → Ends k m
+  ends-lower le lt =
+      record {
+        noInfix = binds-less _ m lt;
+        noPostfix = no-postfix (λ i. omega (arith, le, i .0));
+        paren = λ e. omega (arith, le, e);
+        period = λ e. omega (arith, le, e);
+      }
+
+  pub ends-unsaid : false ≡ true → Ends k m
+  ends-unsaid e = let z : _≡_ {A = ℕ} 0 1 = cc in absurd (omega arith)
+
+  pub ends-past : kind.caret < k → (k ≡ kind.exclamation → ⊥) → (k ≡ kind.IS → ⊥) → (k ≡ kind.openParen → ⊥) → (k ≡ kind.period → ⊥) → Ends k m
+  unfolding postfixOf
+  ends-past lt bang is paren period =
+      record {
+        noInfix = no-infix (λ i. omega (arith, lt, i .1));
+        noPostfix = rw (not-among k 0 postfixTable ((tt, bang), is)) (binds-none m);
+        paren = paren;
+        period = period;
+      }
+
+module _ (text ts : List ℕ) where
+  -- nothing follows an operand
+  pub tail-off : (rec : Rec) (m : ℕ) (c : Cursor) (t : List ℕ) → binds (infixOf (kindAt ts (c .at)) .precedence) m ≡ false → binds (postfixOf (kindAt ts (c .at))) m ≡ false →
+      tail text ts rec m c t ≡ done c t
+  unfolding postfixes infixes then
+  tail-off rec m c t i p =
+      let none = while-off (λ at. binds (postfixOf (kindAt ts at)) m) (postfix ts) (count ts) c t p in
+      rw (none, while-off (λ at. binds (infixOf (kindAt ts at) .precedence) m) (infixed text ts rec) (count ts) c t i) none
+
+  leaf-ends : (rec : Rec) (m k x : ℕ) (c : Cursor) (t : List ℕ) → Ends (kindAt ts (c .at + 1)) m → then (leaf k x c t) (tail text ts rec m) ≡ leaf k x c t
+  unfolding then
+  leaf-ends rec m k x c t e = by (leb (capacity t) (c .rows)) refl
+    where
+      by : (b : Bool) → leb (capacity t) (c .rows) ≡ b → then (leaf k x c t) (tail text ts rec m) ≡ leaf k x c t
+      by true f = rw (put-full (rowOf k x 0) (past 1 c) t (leb-true _ _ f)) refl
+      by false f = rw (put-room (rowOf k x 0) (past 1 c) t (leb-false _ _ f)) (tail-off rec m _ _ (e .noInfix) (e .noPostfix))
+
+  -- an atom that is a leaf and ends
+  module _ (levels m : ℕ) (c : Cursor) (t : List ℕ) (e : Ends (kindAt ts (c .at + 1)) m) where
+    by-atom : (k x : ℕ) → opens (kindAt ts (c .at)) m ≡ false → atom text ts (expression text ts levels) (startOf (kindAt ts (c .at))) c t ≡ leaf k x c t →
+        expression text ts (suc levels) m c t ≡ leaf k x c t
+    by-atom k x shut is =
+        expression-off text ts levels m c t shut
+        ∙ ap (λ (o : Out). then o (tail text ts (expression text ts levels) m)) is
+        ∙ leaf-ends (expression text ts levels) m k x c t e
+
+    pub alone-number : kindAt ts (c .at) ≡ kind.number → (x : ℕ) → numberOf (spelled text ts (c .at)) ≡ Integer x → expression text ts (suc levels) m c t ≡ leaf row.integer x c t
+    unfolding opens prefixOf among binds startOf atom numeral
+    alone-number is x n = by-atom row.integer x (rw is refl) (atom-by text ts _ c t {b = start.Number} (ap startOf is) ∙ ap (λ (y : Number). numeral y c t) n)
+
+    pub alone-string : kindAt ts (c .at) ≡ kind.string → expression text ts (suc levels) m c t ≡ leaf row.string (c .at) c t
+    unfolding opens prefixOf among binds startOf atom
+    alone-string is = by-atom row.string (c .at) (rw is refl) (atom-by text ts _ c t {b = start.Text} (ap startOf is))
+
+    pub alone-name : kindAt ts (c .at) ≡ kind.ident → expression text ts (suc levels) m c t ≡ leaf row.column (c .at) c t
+    unfolding opens prefixOf among binds startOf atom
+    alone-name is =
+        by-atom row.column (c .at) (rw is refl)
+        (atom-by text ts _ c t {b = start.Name} (ap startOf is) ∙ named-column text ts _ c t (e .paren) ∙ column-plain ts c t (e .period))
+
+  -- what an answer says: `Not` nothing, a row its own kind and x
+  pub stands-not : (m at : ℕ) → Stands text ts m at single.Not
+  stands-not m at = record { says = λ k x e. absurd (not-row e) }
+
+  pub numbered-not : (at : ℕ) → Numbered text ts at single.Not
+  numbered-not at = record { says = λ k x e. absurd (not-row e) }
+
+  pub numbered : (at x : ℕ) → numberOf (spelled text ts at) ≡ Integer x → Numbered text ts at (single.Row row.integer x)
+  numbered at x is = record { says = λ k y e. (sym (ap kind-of e), is ∙ ap (λ (r : Single). Integer (x-of r)) e) }
+
+  module _ (m at : ℕ) (ends : Ends (kindAt ts (at + 1)) m) where
+    stands : (k x : ℕ) → ((levels n : ℕ) (t : List ℕ) → expression text ts (suc levels) m (record { at = at; rows = n }) t ≡ leaf k x (record { at = at; rows = n }) t) →
+        Stands text ts m at (single.Row k x)
+    stands k x is =
+        record { says = λ l y e levels n t. is levels n t ∙ ap (λ (r : Single). leaf (kind-of r) (x-of r) (record { at = at; rows = n }) t) e }
+
+    pub stands-number : {r : Single} → kindAt ts at ≡ kind.number → Numbered text ts at r → Stands text ts m at r
+    stands-number is number =
+        record {
+          says = λ k x e levels n t.
+              let found = number .says k x e in
+              rw (found .0) (alone-number levels m (record { at = at; rows = n }) t ends is x (found .1));
+        }
+
+    pub stands-string : kindAt ts at ≡ kind.string → Stands text ts m at (single.Row row.string at)
+    stands-string is = stands row.string at (λ levels n t. alone-string levels m (record { at = at; rows = n }) t ends is)
+
+    pub stands-name : kindAt ts at ≡ kind.ident → Stands text ts m at (single.Row row.column at)
+    stands-name is = stands row.column at (λ levels n t. alone-name levels m (record { at = at; rows = n }) t ends is)
