@@ -10,9 +10,9 @@ use borrow.Author.Tests.{lt-leb, leb-true, leb-false}
 use lib.Dec.{leb, ltb}
 use Rattle.tokens.specs.Kind as kind
 use Rattle.tokens.specs.Token.{count, kindAt, spelled}
-use Rattle.tokens.specs.Number.{numberOf}
-use Rattle.tokens.specs.declared.number.Number.{Number}
-use Rattle.tokens.specs.declared.number.Number.the-variants.{Integer}
+use Rattle.numbers.specs.Number.{numberOf}
+use Rattle.numbers.specs.declared.Number.{Number}
+use Rattle.numbers.specs.declared.Number.the-variants.{Integer}
 use Rattle.rows.specs.Layout.{capacity}
 use Rattle.grammar.specs.Kind as row
 use Rattle.grammar.specs.Operator.{Operator, no, infixTable, infixOf, postfixTable, postfixOf, prefixOf, binds, among, startOf}

@@ -11,9 +11,9 @@ use borrow.Author.Tests.{eqb-true, eqb-false}
 use lib.Dec.{eqb, leb, ltb}
 use Rattle.tokens.specs.Kind as kind
 use Rattle.tokens.specs.Token.{count, kindAt, spelled}
-use Rattle.tokens.specs.Number.{numberOf}
-use Rattle.tokens.specs.declared.number.Number.{Number}
-use Rattle.tokens.specs.declared.number.Number.the-variants.{Integer, Float, Neither}
+use Rattle.numbers.specs.Number.{numberOf}
+use Rattle.numbers.specs.declared.Number.{Number}
+use Rattle.numbers.specs.declared.Number.the-variants.{Integer, Float, Neither}
 use Rattle.tokens.specs.declared.refusal.Refusal.{Refusal}
 use Rattle.tokens.proofs.Tabled.{kind-in}
 use Rattle.rows.specs.Layout.{capacity}

@@ -6,17 +6,16 @@ use crate::step::Step;
 use crate::step::leaf;
 use crate::step::need;
 use crate::step::put;
+use numbers::Number;
 use rows::Row;
 use tokens::kind;
-use tokens::number;
-use tokens::number::Number;
 use tokens::refusal::Refusal;
 use tokens::table;
 use tokens::table::kind_at;
 ghost use mathlib.Core.Path.{_≡_};
 ghost use Prim.Native.Nat.{_≤_, _<_};
 ghost use Rattle.tokens.specs.Token.{count, kindAt, spelled};
-ghost use Rattle.tokens.specs.Number.{numberOf};
+ghost use Rattle.numbers.specs.Number.{numberOf};
 ghost use Rattle.grammar.specs.Memory.{Gives, numeral as numeralOf, column as columnOf, Numbered, Stands};
 
 // A number.
@@ -25,7 +24,7 @@ pub fn numeral(text: &[u8], tokens: &[u32], rows: &mut [u64], c: Cursor) -> Step
     ensures { λ r. ⌜ Gives (numeralOf (numberOf (spelled (now (text .entry)) (now (tokens .entry)) (c .at))) c (now (rows .entry))) r (now (rows .exit)) ⌝ }
 {
     let at = c.at;
-    match number::number_of(table::spelled(text, tokens, at)) {
+    match numbers::number_of(table::spelled(text, tokens, at)) {
         Number::Integer(n) => leaf(rows, c, row::INTEGER, n),
         Number::Float => leaf(rows, c, row::FLOAT, at as u64),
         Number::Neither => Step::Refused(Refusal::BadNumber, at),
@@ -74,7 +73,7 @@ pub enum Single {
 fn whole(text: &[u8], tokens: &[u32], at: usize) -> Single
     ensures { λ r. ⌜ Numbered (now (text .entry)) (now (tokens .entry)) at r ⌝ }
 {
-    match number::whole_of(table::spelled(text, tokens, at)) {
+    match numbers::whole_of(table::spelled(text, tokens, at)) {
         Number::Integer(n) => Single::Row(row::INTEGER, n),
         Number::Float => Single::Not,
         Number::Neither => Single::Not,

@@ -8,9 +8,9 @@ use native.Mathlib.Omega.{arith}
 use lib.Dec.{eqb, leb, ltb}
 use Rattle.tokens.specs.Kind as kind
 use Rattle.tokens.specs.Token.{count, kindAt, spelled}
-use Rattle.tokens.specs.Number.{numberOf}
-use Rattle.tokens.specs.declared.number.Number.{Number}
-use Rattle.tokens.specs.declared.number.Number.the-variants.{Integer, Float, Neither}
+use Rattle.numbers.specs.Number.{numberOf}
+use Rattle.numbers.specs.declared.Number.{Number}
+use Rattle.numbers.specs.declared.Number.the-variants.{Integer, Float, Neither}
 use Rattle.grammar.specs.Kind as row
 use Rattle.grammar.specs.Operator.{binds, infixOf, rightOf, prefixOf, startOf}
 use Rattle.grammar.specs.Tree.{Tree, leaf, unary, binary, call, Trees, none, more, size, sizes}

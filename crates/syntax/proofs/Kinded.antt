@@ -10,9 +10,9 @@ use lib.Dec.{eqb, leb, ltb}
 use lib.ListN.{drop}
 use Rattle.tokens.specs.Kind as kind
 use Rattle.tokens.specs.Token.{count, kindAt, spelled, checkTable}
-use Rattle.tokens.specs.Number.{numberOf}
-use Rattle.tokens.specs.declared.number.Number.{Number}
-use Rattle.tokens.specs.declared.number.Number.the-variants.{Integer, Float, Neither}
+use Rattle.numbers.specs.Number.{numberOf}
+use Rattle.numbers.specs.declared.Number.{Number}
+use Rattle.numbers.specs.declared.Number.the-variants.{Integer, Float, Neither}
 use Rattle.tokens.specs.declared.table.Checked.{Checked}
 use Rattle.tokens.specs.declared.table.Checked.the-variants as table
 use Rattle.rows.specs.Layout.{width, capacity}

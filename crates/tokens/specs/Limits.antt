@@ -12,7 +12,3 @@ tokensMax = 4_096
 -- rows of either family
 abbrev pub rowsMax : ℕ
 rowsMax = 2_048
-
--- the largest Integer
-abbrev pub integerMax : ℕ
-integerMax = 9_223_372_036_854_775_807

@@ -8,6 +8,3 @@ pub const TOKENS_MAX: usize = 4096;
 
 // Rows of either family.
 pub const ROWS_MAX: usize = 2048;
-
-// The largest Integer, 2^63 - 1.
-pub const INTEGER_MAX: u64 = 9223372036854775807;

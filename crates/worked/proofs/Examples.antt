@@ -10,7 +10,7 @@ use Rattle.grammar.specs.Rules as rules
 use Rattle.grammar.specs.Operator as operator
 use Rattle.grammar.specs.Tree as syntax
 use Rattle.tokens.specs.Token as token
-use Rattle.tokens.specs.Number as number
+use Rattle.numbers.specs.Number as number
 use Rattle.rows.specs.Whole as whole
 use Rattle.predicate.specs.Row as row
 use Rattle.predicate.specs.Tree as tree

@@ -1,8 +1,8 @@
 -- `leaf::numeral` meets its contract: by what the number rule says of the token's bytes.
 -- Assumes nothing.
 use mathlib.Core.Path.{sym, ap, _∙_}
-use Rattle.tokens.specs.Number.{numberOf}
-use Rattle.tokens.specs.declared.number.Number.{Number}
+use Rattle.numbers.specs.Number.{numberOf}
+use Rattle.numbers.specs.declared.Number.{Number}
 use Rattle.grammar.specs.Memory.{numeral}
 use Rattle.grammar.proofs.Steps.{same-as, ends}
 use borrow.Author.Needs.{needs}

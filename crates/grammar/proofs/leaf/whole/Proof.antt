@@ -2,7 +2,7 @@
 -- Assumes nothing.
 use mathlib.Core.Path.{sym, ap, _∙_}
 use borrow.Author.Needs.{needs}
-use Rattle.tokens.specs.Number.{numberOf}
+use Rattle.numbers.specs.Number.{numberOf}
 use Rattle.grammar.proofs.Alone.{numbered-not, numbered}
 use Rattle.grammar.proofs.leaf.whole.Statement.{statement}
 use Rattle.grammar.proofs.leaf.whole.Tie as tie

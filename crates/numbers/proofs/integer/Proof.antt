@@ -1,9 +1,9 @@
--- `number::integer` meets its contract: its test is that of `integerOf`.
+-- `numbers::integer` meets its contract: its test is that of `integerOf`.
 -- Assumes nothing.
 use borrow.Author.Tests.{le-leb, lt-leb}
-use Rattle.tokens.specs.Number.{integerOf}
-use Rattle.tokens.proofs.number.integer.Statement.{statement}
-use Rattle.tokens.proofs.number.integer.Tie as tie
+use Rattle.numbers.specs.Number.{integerOf}
+use Rattle.numbers.proofs.integer.Statement.{statement}
+use Rattle.numbers.proofs.integer.Tie as tie
 
 returns : tie.Need-returns
 unfolding integerOf

@@ -1,10 +1,10 @@
--- `number::number_of` meets its contract: the run of digits at the start decides, and what follows it is judged by its parts.
+-- `numbers::number_of` meets its contract: the run of digits at the start decides, and what follows it is judged by its parts.
 -- Assumes nothing.
 use mathlib.Core.Path.{sym, _∙_}
-use Rattle.tokens.proofs.Spelling.{run-neither, run-integer, run-float, run-bad}
+use Rattle.numbers.proofs.Spelling.{run-neither, run-integer, run-float, run-bad}
 use borrow.Author.Needs.{needs}
-use Rattle.tokens.proofs.number.number_of.Statement.{statement}
-use Rattle.tokens.proofs.number.number_of.Tie as tie
+use Rattle.numbers.proofs.number_of.Statement.{statement}
+use Rattle.numbers.proofs.number_of.Tie as tie
 
 digits-requires : tie.Need-digits-requires
 digits-requires c κs = search needs

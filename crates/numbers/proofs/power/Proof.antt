@@ -1,11 +1,11 @@
--- `number::power` meets its contract: a run of digits that is not empty and goes to the end.
+-- `numbers::power` meets its contract: a run of digits that is not empty and goes to the end.
 -- Assumes nothing.
-use Rattle.tokens.specs.Number.{digits}
+use Rattle.numbers.specs.Number.{digits}
 use mathlib.Core.Path.{sym, ap, _∙_}
-use Rattle.tokens.proofs.Spelling.{run-some, run-none, run-ended, digits-both, digits-none}
+use Rattle.numbers.proofs.Spelling.{run-some, run-none, run-ended, digits-both, digits-none}
 use borrow.Author.Needs.{needs}
-use Rattle.tokens.proofs.number.power.Statement.{statement}
-use Rattle.tokens.proofs.number.power.Tie as tie
+use Rattle.numbers.proofs.power.Statement.{statement}
+use Rattle.numbers.proofs.power.Tie as tie
 
 sign-requires : tie.Need-sign-requires
 sign-requires c κs = search needs

@@ -1,9 +1,9 @@
--- `number::digit` meets its contract: its two tests are those of `digit`.
+-- `numbers::digit` meets its contract: its two tests are those of `digit`.
 -- Assumes nothing.
 use borrow.Author.Tests.{le-leb, lt-leb}
-use Rattle.tokens.specs.Number.{digit}
-use Rattle.tokens.proofs.number.digit.Statement.{statement}
-use Rattle.tokens.proofs.number.digit.Tie as tie
+use Rattle.numbers.specs.Number.{digit}
+use Rattle.numbers.proofs.digit.Statement.{statement}
+use Rattle.numbers.proofs.digit.Tie as tie
 
 returns : tie.Need-returns
 unfolding digit

@@ -4,10 +4,10 @@ use Prim.Native.Nat.{ℕ, _≤_, min}
 use mathlib.Core.Bool.{true, false}
 use mathlib.Core.List.{List, [], _∷_}
 use lib.ListN.{length, drop}
-use Rattle.tokens.specs.Number.{digit, pastDigits, valueFrom, numberOf}
-use Rattle.tokens.specs.declared.number.Number.{Number}
-use Rattle.tokens.specs.declared.number.Number.the-variants.{Integer}
-use Rattle.tokens.specs.declared.number.Run.{Run}
+use Rattle.numbers.specs.Number.{digit, pastDigits, valueFrom, numberOf}
+use Rattle.numbers.specs.declared.Number.{Number}
+use Rattle.numbers.specs.declared.Number.the-variants.{Integer}
+use Rattle.numbers.specs.declared.Run.{Run}
 
 -- where a value past the largest Integer is held
 abbrev pub held : ℕ

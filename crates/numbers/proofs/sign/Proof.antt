@@ -1,9 +1,9 @@
--- `number::sign` meets its contract: by whether there is a byte, and whether it is one of the two signs.
+-- `numbers::sign` meets its contract: by whether there is a byte, and whether it is one of the two signs.
 -- Assumes nothing.
-use Rattle.tokens.proofs.Spelling.{sign-on, sign-off, sign-end, is-first, is-second, is-other}
+use Rattle.numbers.proofs.Spelling.{sign-on, sign-off, sign-end, is-first, is-second, is-other}
 use borrow.Author.Needs.{needs}
-use Rattle.tokens.proofs.number.sign.Statement.{statement}
-use Rattle.tokens.proofs.number.sign.Tie as tie
+use Rattle.numbers.proofs.sign.Statement.{statement}
+use Rattle.numbers.proofs.sign.Tie as tie
 
 shared-slice-read-b : tie.Need-shared-slice-read-b
 shared-slice-read-b c = search needs

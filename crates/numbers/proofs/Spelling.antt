@@ -10,12 +10,11 @@ use borrow.Author.Tests.{lt-ltb, le-ltb, leb-true, leb-false, eq-eqb, ne-eqb, eq
 use lib.Dec.{leb, ltb, eqb}
 use lib.ListN.{length, getD, drop, length-drop, drop-of-length-le}
 use lib.Seq.{drop-cons}
-use Rattle.tokens.specs.Number.{digit, begins, ended, pastDigits, digits, pastFraction, pastSign, exponent, valueFrom, integerOf, numberOf}
-use Rattle.tokens.specs.Run.{held, leading, Past, Digits, Whole}
-use Rattle.tokens.specs.Limits.{integerMax}
-use Rattle.tokens.specs.declared.number.Run.{Run}
-use Rattle.tokens.specs.declared.number.Number.{Number}
-use Rattle.tokens.specs.declared.number.Number.the-variants.{Integer, Float, Neither}
+use Rattle.numbers.specs.Number.{integerMax, digit, begins, ended, pastDigits, digits, pastFraction, pastSign, exponent, valueFrom, integerOf, numberOf}
+use Rattle.numbers.specs.Run.{held, leading, Past, Digits, Whole}
+use Rattle.numbers.specs.declared.Run.{Run}
+use Rattle.numbers.specs.declared.Number.{Number}
+use Rattle.numbers.specs.declared.Number.the-variants.{Integer, Float, Neither}
 
 -- what a digit is
 pub digit-in : (b : ℕ) → digit b ≡ true → (48 ≤ b) × (b ≤ 57)

@@ -1,10 +1,10 @@
--- `number::whole_of` meets its contract: the run of digits at the start is the whole spelling, or nothing is said.
+-- `numbers::whole_of` meets its contract: the run of digits at the start is the whole spelling, or nothing is said.
 -- Assumes nothing.
 use mathlib.Core.Path.{_∙_}
 use borrow.Author.Needs.{needs}
-use Rattle.tokens.proofs.Spelling.{run-integer, whole-unsaid, whole-said}
-use Rattle.tokens.proofs.number.whole_of.Statement.{statement}
-use Rattle.tokens.proofs.number.whole_of.Tie as tie
+use Rattle.numbers.proofs.Spelling.{run-integer, whole-unsaid, whole-said}
+use Rattle.numbers.proofs.whole_of.Statement.{statement}
+use Rattle.numbers.proofs.whole_of.Tie as tie
 
 digits-requires : tie.Need-digits-requires
 digits-requires c κs = search needs

@@ -1,10 +1,10 @@
--- `number::exponent_at` meets its contract: by whether there is a byte, and whether it is `e` or `E`.
+-- `numbers::exponent_at` meets its contract: by whether there is a byte, and whether it is `e` or `E`.
 -- Assumes nothing.
 use mathlib.Core.Path.{sym, _∙_}
-use Rattle.tokens.proofs.Spelling.{exponent-end, exponent-on, exponent-off, is-first, is-second, is-other}
+use Rattle.numbers.proofs.Spelling.{exponent-end, exponent-on, exponent-off, is-first, is-second, is-other}
 use borrow.Author.Needs.{needs}
-use Rattle.tokens.proofs.number.exponent_at.Statement.{statement}
-use Rattle.tokens.proofs.number.exponent_at.Tie as tie
+use Rattle.numbers.proofs.exponent_at.Statement.{statement}
+use Rattle.numbers.proofs.exponent_at.Tie as tie
 
 returns : tie.Need-returns
 returns c = sym (exponent-end _ _ (c .if1 .taken))

@@ -1,11 +1,15 @@
 // Which spellings are numbers, in one pass over the bytes.
-use crate::limits::INTEGER_MAX;
+// docs/FORMAT.md has the rule; specs/ has it as a definition.
 ghost use mathlib.Core.Path.{_≡_};
 ghost use Prim.Native.Nat.{_+_, _-_, _*_, _≤_, min};
 ghost use lib.ListN.{length, drop};
-ghost use Rattle.tokens.specs.Number.{digit as digitOf, digits as digitsOf, pastFraction, pastSign, exponent, integerOf, numberOf};
-ghost use Rattle.tokens.specs.Run.{held, Digits, Past, Whole};
+ghost use Rattle.numbers.specs.Number.{digit as digitOf, digits as digitsOf, pastFraction, pastSign, exponent, integerOf, numberOf};
+ghost use Rattle.numbers.specs.Run.{held, Digits, Past, Whole};
 
+// The largest Integer, 2^63 - 1.
+const INTEGER_MAX: u64 = 9223372036854775807;
+
+// What a spelling is.
 pub enum Number {
     Integer(u64),
     Float,

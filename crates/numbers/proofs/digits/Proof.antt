@@ -1,4 +1,4 @@
--- `number::digits` meets its contract. The invariant: what is past the digits from `end` on is what is past those from `from` on, and so is the value.
+-- `numbers::digits` meets its contract. The invariant: what is past the digits from `end` on is what is past those from `from` on, and so is the value.
 -- Assumes nothing.
 use mathlib.Core.Path.{sym, _∙_}
 use Prim.Native.Nat.{_-_}
@@ -6,9 +6,9 @@ use native.Mathlib.Omega.{arith}
 use borrow.Author.Needs.{needs}
 use borrow.Author.Tests.{not-true, not-false}
 use lib.ListN.{length}
-use Rattle.tokens.proofs.Spelling.{digit-in, Running, run-begins, run-on, run-off, run-out}
-use Rattle.tokens.proofs.number.digits.Statement.{statement}
-use Rattle.tokens.proofs.number.digits.Tie as tie
+use Rattle.numbers.proofs.Spelling.{digit-in, Running, run-begins, run-on, run-off, run-out}
+use Rattle.numbers.proofs.digits.Statement.{statement}
+use Rattle.numbers.proofs.digits.Tie as tie
 
 abbrev Inv-loop : tie.InvT-loop
 Inv-loop s from end₀ value₀ end value = Running s from end value

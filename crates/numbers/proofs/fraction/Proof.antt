@@ -1,9 +1,9 @@
--- `number::fraction` meets its contract: by whether there is a byte, and whether it is `.`.
+-- `numbers::fraction` meets its contract: by whether there is a byte, and whether it is `.`.
 -- Assumes nothing.
-use Rattle.tokens.proofs.Spelling.{fraction-on, fraction-off, fraction-end}
+use Rattle.numbers.proofs.Spelling.{fraction-on, fraction-off, fraction-end}
 use borrow.Author.Needs.{needs}
-use Rattle.tokens.proofs.number.fraction.Statement.{statement}
-use Rattle.tokens.proofs.number.fraction.Tie as tie
+use Rattle.numbers.proofs.fraction.Statement.{statement}
+use Rattle.numbers.proofs.fraction.Tie as tie
 
 shared-slice-read-b : tie.Need-shared-slice-read-b
 shared-slice-read-b c = search needs

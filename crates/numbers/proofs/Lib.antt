@@ -1,0 +1,2 @@
+-- Laws of the number rule that the functions' proofs cite.
+pub mod Spelling

@@ -1,0 +1,3 @@
+-- What the contracts of `numbers` say, as definitions: read Number.
+pub mod Number
+pub mod Run
