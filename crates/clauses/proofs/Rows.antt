@@ -1,9 +1,10 @@
--- The clauses of a row, by its part: an atom's one literal, or two rows' lists joined (`part-is`). Counting goes by `count-here` and `count-join`; the loop
+-- The clauses of a row, by its part: an atom's one literal, or two rows' lists joined (`part-is`). Counting goes by `count-here` and `count-join`, and along
+-- left sides by `along-begins`, `along-turns` and `along-ends`; the loop
 -- that follows NOTs by `part-shape` and `not-falls`.
 -- Assumes nothing.
 use Prim.Native.Nat.{ℕ, zero, suc, _+_, _*_, _<_, _≤_}
 use mathlib.Core.Path.{_≡_, refl, sym, ap, ap₂, _∙_, subst}
-use mathlib.Core.Bool.{Bool, true, false, not}
+use mathlib.Core.Bool.{Bool, true, false, not, Bool·beq}
 use mathlib.Core.List.{List, [], _∷_, map}
 use native.Mathlib.Omega.{arith}
 use lib.ListN.{length}
@@ -15,13 +16,13 @@ use Rattle.predicate.specs.declared.Shape.{Shape}
 use Rattle.predicate.specs.declared.Shape.the-variants as shape
 use Rattle.predicate.proofs.Trees.{sound-below, tree-step, root-at}
 use Rattle.clauses.specs.Clause.{Literal, literal, join, clauses, bit, code}
-use Rattle.clauses.specs.Size.{capped, sizeOf, joined}
+use Rattle.clauses.specs.Size.{capped, sizeOf, joined, Small, Counts}
 use Rattle.clauses.specs.Part.{partOf, partTo, partAt}
 use Rattle.clauses.specs.declared.Part.{Part}
 use Rattle.clauses.specs.declared.Part.the-variants.{Here, Join}
 use Rattle.clauses.specs.declared.Size.{Size}
 use Rattle.clauses.specs.declared.Size.the-variants.{Is}
-use Rattle.clauses.proofs.Sizes.{clauses-some, size-join}
+use Rattle.clauses.proofs.Sizes.{clauses-some, size-join, join-some, join-join, small-joined}
 
 -- ---- how deep NOTs are followed does not matter
 
@@ -112,9 +113,70 @@ module _ {l : List ℕ} {r : ℕ} {v : Part} (g : Bool) (h : Sound l r) (e : v �
   unfolding sizeOf capped
   count-here f = let z = part-is g h e f in sym (ap sizeOf (z .1))
 
-  pub count-join : {x y : ℕ} {k o : Bool} {a b s : Size} → v ≡ Join x y k o → a ≡ sizeOf (clauses k (treeAt l x)) → b ≡ sizeOf (clauses k (treeAt l y))
-      → s ≡ joined o a b → s ≡ sizeOf (clauses g (treeAt l r))
-  count-join {x} {y} {k} {o} f p q t =
-      let z = part-is g h e f in
-      t ∙ ap₂ (joined o) p q ∙ size-join o (clauses k (treeAt l x)) (clauses k (treeAt l y)) (clauses-some k (treeAt l x)) (clauses-some k (treeAt l y))
-      ∙ sym (ap sizeOf (z .2))
+  pub count-join : {x y : ℕ} {k o : Bool} {s : Size} → v ≡ Join x y k o → s ≡ sizeOf (join o (clauses k (treeAt l x)) (clauses k (treeAt l y)))
+      → s ≡ sizeOf (clauses g (treeAt l r))
+  count-join f t = let z = part-is g h e f in t ∙ sym (ap sizeOf (z .2))
+
+-- a tree's list is of its size, and not empty
+pub counts-tree : (g : Bool) (t : Tree) {s : Size} → s ≡ sizeOf (clauses g t) → Counts s (clauses g t)
+counts-tree g t e = record { size = e; some = clauses-some g t }
+
+counts-join : (o : Bool) {a b s : Size} {xs ys : List (List Literal)} → Counts a xs → Counts b ys → s ≡ joined o a b → Counts s (join o xs ys)
+counts-join o {xs = xs} {ys = ys} p q e =
+    record {
+      size = e ∙ ap₂ (joined o) (p .size) (q .size) ∙ size-join o xs ys (p .some) (q .some);
+      some = join-some o xs ys (p .some) (q .some);
+    }
+
+-- a list of size `sum` that row r joined with comes to what row `root` joined with cs comes to
+pub record Rest (l : List ℕ) (root : ℕ) (sign o : Bool) (r : ℕ) (neg : Bool) (sum : Size) (cs : List (List Literal)) : Type 0 where
+  pub list : List (List Literal)
+  pub counts : Counts sum list
+  pub same : join o (clauses neg (treeAt l r)) list ≡ join o (clauses sign (treeAt l root)) cs
+
+-- counting along left sides has come from row `root`, with a list of size `last` after it, to row r, with one of size `sum`
+pub record Along (l : List ℕ) (root : ℕ) (sign o : Bool) (last : Size) (r : ℕ) (neg : Bool) (sum : Size) : Type 0 where
+  pub sound : Sound l r
+  pub below : r ≤ root
+  pub small : Small sum
+  pub rest : (cs : List (List Literal)) → Counts last cs → Rest l root sign o r neg sum cs
+
+-- two are joined the same way
+pub same-way : (p o : Bool) → not (Bool·beq p o) ≡ false → p ≡ o
+same-way true true e = refl
+same-way true false e = let z : _≡_ {A = ℕ} 0 1 = cc in absurd (omega arith)
+same-way false true e = let z : _≡_ {A = ℕ} 0 1 = cc in absurd (omega arith)
+same-way false false e = refl
+
+pub along-begins : {l : List ℕ} {root : ℕ} (sign o : Bool) {last : Size} → Sound l root → Small last → Along l root sign o last root sign last
+along-begins sign o h k = record { sound = h; below = omega arith; small = k; rest = λ cs c. record { list = cs; counts = c; same = refl } }
+
+module _ {l : List ℕ} {root r : ℕ} {sign o neg : Bool} {last sum : Size} (i : Along l root sign o last r neg sum) where
+  -- row r is counted: what is asked for is there
+  pub along-ends : {a s : Size} → a ≡ sizeOf (clauses neg (treeAt l r)) → s ≡ joined o a sum →
+      (cs : List (List Literal)) → Counts last cs → s ≡ sizeOf (join o (clauses sign (treeAt l root)) cs)
+  along-ends e f cs c =
+      let rest = i .rest cs c in
+      counts-join o (counts-tree neg (treeAt l r) e) (rest .counts) f .size ∙ ap sizeOf (rest .same)
+
+  -- row r is joined the same way: its right side is counted, and its left side is next
+  pub along-turns : {x y : ℕ} {k p : Bool} {v : Part} {b s : Size} → v ≡ partAt l r neg → v ≡ Join x y k p → p ≡ o → b ≡ sizeOf (clauses k (treeAt l y)) → s ≡ joined o b sum →
+      Along l root sign o last x k s
+  along-turns {x} {y} {k} {p} {v} {b} {s} e f same count is =
+      let z = part-is neg (i .sound) e f in
+      let joint : clauses neg (treeAt l r) ≡ join o (clauses k (treeAt l x)) (clauses k (treeAt l y)) = z .2 ∙ ap (λ (q : Bool). join q (clauses k (treeAt l x)) (clauses k (treeAt l y))) same in
+      record {
+        sound = sound-below x (i .sound) (omega (arith, z .0));
+        below = omega (arith, z .0, i .below);
+        small = subst Small (sym is) (small-joined o b sum);
+        rest = λ cs c.
+            let rest = i .rest cs c in
+            record {
+              list = join o (clauses k (treeAt l y)) (rest .list);
+              counts = counts-join o (counts-tree k (treeAt l y) count) (rest .counts) is;
+              same =
+                  sym (join-join o (clauses k (treeAt l x)) (clauses k (treeAt l y)) (rest .list))
+                  ∙ ap (λ (xs : List (List Literal)). join o xs (rest .list)) (sym joint)
+                  ∙ rest .same;
+            };
+      }

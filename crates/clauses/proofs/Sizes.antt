@@ -4,7 +4,7 @@
 use Prim.Native.Nat.{ℕ, _+_, _*_, _<_, _≤_}
 use mathlib.Core.Path.{_≡_, refl, sym, ap, ap₂, _∙_, subst}
 use mathlib.Core.Bool.{Bool, true, false, not}
-use mathlib.Core.List.{List, [], _∷_, _++_, map}
+use mathlib.Core.List.{List, [], _∷_, _++_, map, append-assoc}
 use native.Mathlib.Omega.{arith}
 use native.Mathlib.Nat.{le-mul-of-pos-right, le-trans}
 use lib.ListN.{length, length-append, length-map}
@@ -15,7 +15,7 @@ use Rattle.clauses.specs.Clause.{Literal, clausesMax, literalsMax, cross
 use Rattle.clauses.specs.Size.{pick, capped, sizeOf, joined, Small}
 use Rattle.clauses.specs.declared.Size.{Size}
 use Rattle.clauses.specs.declared.Size.the-variants.{Many, Is}
-use Rattle.clauses.proofs.Crossing.{before}
+use Rattle.clauses.proofs.Crossing.{before, cross-cross}
 
 -- ---- caps
 
@@ -66,6 +66,13 @@ small-caps c l (Is d m) h = (omega (arith, h .0, h .2), omega (arith, h .1, h .3
 pub small-size : (cs : List (List Literal)) {s : Size} → s ≡ sizeOf cs → Small s
 unfolding sizeOf
 small-size cs e = subst Small (sym e) (small-caps (length cs) (total cs) (sizeOf cs) (cap-is (length cs) (total cs)))
+
+pub small-joined : (o : Bool) (a b : Size) → Small (joined o a b)
+unfolding joined
+small-joined o Many b = tt
+small-joined o (Is c l) Many = tt
+small-joined false (Is c l) (Is d m) = small-caps (c + d) (l + m) (capped (c + d) (l + m)) (cap-is (c + d) (l + m))
+small-joined true (Is c l) (Is d m) = small-caps (c * d) (l * d + m * c) (capped (c * d) (l * d + m * c)) (cap-is (c * d) (l * d + m * c))
 
 pub small-is : {s : Size} {c l : ℕ} → s ≡ Is c l → Small s → (c ≤ clausesMax) × (l ≤ literalsMax)
 small-is e h = subst Small e h
@@ -141,8 +148,13 @@ pub total-join : (o : Bool) (xs ys : List (List Literal)) → total (join o xs y
 total-join false xs ys = total-append xs ys
 total-join true xs ys = total-cross xs ys
 
-join-some : (o : Bool) (xs ys : List (List Literal)) → 0 < length xs → 0 < length ys → 0 < length (join o xs ys)
+pub join-some : (o : Bool) (xs ys : List (List Literal)) → 0 < length xs → 0 < length ys → 0 < length (join o xs ys)
 join-some o xs ys h k = subst (λ (n : ℕ). 0 < n) (sym (length-join o xs ys)) (le-trans h (left-clauses (length xs) 0 (length ys) 0 h k o))
+
+-- how lists are bracketed does not matter
+pub join-join : (o : Bool) (xs ys zs : List (List Literal)) → join o (join o xs ys) zs ≡ join o xs (join o ys zs)
+join-join false xs ys zs = append-assoc xs ys zs
+join-join true xs ys zs = cross-cross xs ys zs
 
 -- no tree's list is empty
 pub clauses-some : (g : Bool) (t : Tree) → 0 < length (clauses g t)

@@ -1,5 +1,6 @@
 -- The size of a clause list, as counting has it: so many clauses and literals, or too many of either. No entry's promise names this file.
-use Prim.Native.Nat.{ℕ, _+_, _*_, _≤_}
+use Prim.Native.Nat.{ℕ, _+_, _*_, _≤_, _<_}
+use mathlib.Core.Path.{_≡_}
 use mathlib.Core.Bool.{Bool, true, false}
 use mathlib.Core.List.{List}
 use lib.ListN.{length}
@@ -30,3 +31,8 @@ joined true (Is c l) (Is d m) = capped (c * d) (l * d + m * c)
 abbrev pub Small : Size → Type 0
 Small Many = Unit {0}
 Small (Is c l) = (c ≤ clausesMax) × (l ≤ literalsMax)
+
+-- s is the size of a list that is not empty
+pub record Counts (s : Size) (cs : List (List Literal)) : Type 0 where
+  pub size : s ≡ sizeOf cs
+  pub some : 0 < length cs

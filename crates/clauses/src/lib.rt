@@ -8,13 +8,13 @@ use predicate::Shape;
 use tokens::refusal::Refusal;
 ghost use mathlib.Core.Path.{_≡_};
 ghost use mathlib.Core.Bool.{false};
-ghost use mathlib.Core.List.{[], _∷_};
+ghost use mathlib.Core.List.{List, [], _∷_};
 ghost use Prim.Native.Nat.{ℕ, _+_, _*_, _<_, _≤_, _^_};
 ghost use lib.ListN.{length};
 ghost use Rattle.tokens.specs.Limits.{rowsMax};
 ghost use Rattle.predicate.specs.Tree.{Tree, rootOf, treeAt, Sound};
-ghost use Rattle.clauses.specs.Clause.{bit, literal, clauses, total};
-ghost use Rattle.clauses.specs.Size.{capped as cappedOf, joined as joinedOf, sizeOf, Small};
+ghost use Rattle.clauses.specs.Clause.{Literal, bit, literal, join, clauses, total};
+ghost use Rattle.clauses.specs.Size.{capped as cappedOf, joined as joinedOf, sizeOf, Small, Counts};
 ghost use Rattle.clauses.specs.Part.{partAt};
 ghost use Rattle.clauses.specs.Chain.{chainOf, freeOf, Cells, Heads, Put, Clear, Copied, Keeps, Kept, Agains, Again, Fits, strung, Stringing, Linked, Wrote, Room, Written};
 ghost use Rattle.clauses.specs.Split.{Gives, listOf, Promise};
@@ -157,9 +157,37 @@ pub fn count(rows: &[u64], r: usize, neg: bool) -> Size
     match v {
         Part::Here(_, _) => Size::Is(1, 1),
         Part::Join(x, y, h, o) => {
-            let a = count(rows, x, h);
             let b = count(rows, y, h);
-            joined(o, a, b)
+            along(rows, x, h, o, b)
+        }
+    }
+}
+
+// The same of row `root` joined with a list of size `last`. Left sides that are joined the same way are counted in the next turn, so that a long AND
+// or OR is no deep nesting.
+fn along(rows: &[u64], root: usize, sign: bool, o: bool, last: Size) -> Size
+    requires { ⌜ Sound (now rows) root × Small last ⌝ }
+    ensures { λ s. ⌜ ((cs : List (List Literal)) → Counts last cs → s ≡ sizeOf (join o (clauses sign (treeAt (now (rows .entry)) root)) cs)) ⌝ }
+{
+    let mut r = root;
+    let mut neg = sign;
+    let mut sum = last;
+    loop {
+        let v = part_at(rows, r, neg);
+        match v {
+            Part::Here(_, _) => {
+                return joined(o, Size::Is(1, 1), sum);
+            }
+            Part::Join(x, y, h, p) => {
+                if p != o {
+                    let a = count(rows, r, neg);
+                    return joined(o, a, sum);
+                }
+                let b = count(rows, y, h);
+                sum = joined(o, b, sum);
+                r = x;
+                neg = h;
+            }
         }
     }
 }
