@@ -7,11 +7,10 @@ use mathlib.Core.Path.{_≡_, refl, sym, ap, ap₂, _∙_, subst}
 use mathlib.Core.Bool.{Bool, true, false, not, Bool·beq}
 use mathlib.Core.List.{List, [], _∷_, map}
 use native.Mathlib.Omega.{arith}
-use lib.ListN.{length}
 use Rattle.rows.specs.Layout.{rowAt}
 use Rattle.rows.specs.declared.Row.{Row}
 use Rattle.predicate.specs.Row.{shapeAt, arityOf, operandsOf}
-use Rattle.predicate.specs.Tree.{Tree, rootOf, nodeOf, treeAt, Falls, Sound}
+use Rattle.predicate.specs.Tree.{Tree, nodeOf, treeAt, Falls, Sound}
 use Rattle.predicate.specs.declared.Shape.{Shape}
 use Rattle.predicate.specs.declared.Shape.the-variants as shape
 use Rattle.predicate.proofs.Trees.{sound-below, tree-step, root-at}

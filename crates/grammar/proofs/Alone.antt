@@ -15,9 +15,9 @@ use Rattle.numbers.specs.declared.Number.{Number}
 use Rattle.numbers.specs.declared.Number.the-variants.{Integer}
 use Rattle.rows.specs.Layout.{capacity}
 use Rattle.grammar.specs.Kind as row
-use Rattle.grammar.specs.Operator.{Operator, no, infixTable, infixOf, postfixTable, postfixOf, prefixOf, binds, among, startOf}
+use Rattle.grammar.specs.Operator.{no, infixTable, infixOf, postfixTable, postfixOf, prefixOf, binds, among, startOf}
 use Rattle.grammar.specs.Tree.{rowOf}
-use Rattle.grammar.specs.Memory.{Out, done, then, past, leaf, numeral, operates, Ends, opens, Rec, postfixes, infixes, infixed, postfix, atom, named, tail, expression, fuel, Numbered, Stands}
+use Rattle.grammar.specs.Memory.{Out, done, then, past, leaf, numeral, operates, Ends, opens, Rec, postfixes, infixes, infixed, postfix, atom, tail, expression, Numbered, Stands}
 use Rattle.grammar.specs.declared.leaf.Single.{Single}
 use Rattle.grammar.specs.declared.leaf.Single.the-variants as single
 use Rattle.grammar.specs.declared.operator.Start.the-variants as start

@@ -12,9 +12,8 @@ use tokens::kind;
 use tokens::refusal::Refusal;
 use tokens::table;
 use tokens::table::kind_at;
-ghost use mathlib.Core.Path.{_≡_};
 ghost use Prim.Native.Nat.{_≤_, _<_};
-ghost use Rattle.tokens.specs.Token.{count, kindAt, spelled};
+ghost use Rattle.tokens.specs.Token.{count, spelled};
 ghost use Rattle.numbers.specs.Number.{numberOf};
 ghost use Rattle.grammar.specs.Memory.{Gives, numeral as numeralOf, column as columnOf, Numbered, Stands};
 

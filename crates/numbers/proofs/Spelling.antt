@@ -14,7 +14,7 @@ use Rattle.numbers.specs.Number.{integerMax, digit, begins, ended, pastD
 use Rattle.numbers.specs.Run.{held, leading, Past, Digits, Whole}
 use Rattle.numbers.specs.declared.Run.{Run}
 use Rattle.numbers.specs.declared.Number.{Number}
-use Rattle.numbers.specs.declared.Number.the-variants.{Integer, Float, Neither}
+use Rattle.numbers.specs.declared.Number.the-variants.{Float, Neither}
 
 -- what a digit is
 pub digit-in : (b : ℕ) → digit b ≡ true → (48 ≤ b) × (b ≤ 57)

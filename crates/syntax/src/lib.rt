@@ -4,8 +4,6 @@
 // at its own precedence, 8, so that `3 ^ 2` is its right side; `-`, of precedence 6, is not at least 8 and ends it. Back at minimum 0 `-` is taken,
 // with a right side at 7: `4 * 3`, since `*` has 7. Each tree's row is written once its operands stand before it, so the rows come out in post-order:
 // 2, 3, 2, ^, ^, 4, 3, *, -.
-mod expression;
-
 use grammar::step::Cursor;
 use grammar::step::Step;
 use tokens::refusal::Refusal;
@@ -32,7 +30,7 @@ fn whole(text: &[u8], tokens: &[u32], rows: &mut [u64], levels: usize) -> Step
     ensures { λ r. ⌜ Gives (wholeOf (now (text .entry)) (now (tokens .entry)) levels (now (rows .entry))) r (now (rows .exit)) ⌝ }
 {
     let start = Cursor { at: 0, rows: 0 };
-    let s = expression::expression(text, tokens, rows, start, levels, 0);
+    let s = reader::expression(text, tokens, rows, start, levels, 0);
     let Step::Read(c) = s else {
         return s;
     };

@@ -1,4 +1,4 @@
--- `expression::atom` meets its contract: by what the token starts.
+-- `reader::atom` meets its contract: by what the token starts.
 -- Assumes nothing.
 use Rattle.grammar.specs.Operator.{startOf}
 use Rattle.grammar.specs.Memory as M
@@ -8,15 +8,15 @@ use Rattle.grammar.proofs.Openings.{start-paren}
 use borrow.Author.Needs.{needs}
 use native.Mathlib.Omega.{arith}
 use mathlib.Core.Path.{refl, sym, ap, _∙_}
-use Prim.Native.Nat.{ℕ, _-_}
-use Rattle.syntax.proofs.expression.+argument+arguments+atom+closings+expression+infixed+infixes+named+right+tail.Proof.Measures.{atom-at, named-below}
-use Rattle.syntax.proofs.expression.atom.Reads as atom
-use Rattle.syntax.proofs.expression.named.Reads as named
+use Prim.Native.Nat.{ℕ}
+use Rattle.reader.proofs.+argument+arguments+atom+closings+expression+infixed+infixes+named+right+tail.Proof.Measures.{atom-at, named-below}
+use Rattle.reader.proofs.atom.Reads as atom
+use Rattle.reader.proofs.named.Reads as named
 use Rattle.grammar.proofs.leaf.numeral.Reads as numeral-reads
 use Rattle.grammar.proofs.operator.start_of.Reads as start-of-reads
 use Rattle.grammar.proofs.step.leaf.Reads as leaf-reads
 use Rattle.tokens.proofs.table.kind_at.Reads as kind-at-reads
-use Rattle.syntax.proofs.expression.+argument+arguments+atom+closings+expression+infixed+infixes+named+right+tail.Lts-atom as atom-lts
+use Rattle.reader.proofs.+argument+arguments+atom+closings+expression+infixed+infixes+named+right+tail.Lts-atom as atom-lts
 
 -- what is known of the functions that it calls
 abbrev calls : ℕ → atom-lts.Claims

@@ -1,11 +1,11 @@
--- `expression::infix_at` meets its contract: by what it calls.
+-- `reader::infix_at` meets its contract: by what it calls.
 -- Assumes nothing.
 use mathlib.Core.Path.{ap, _∙_}
 use Prim.Native.Nat.{ℕ}
 use Rattle.grammar.specs.Operator.{infixOf, binds}
 use borrow.Author.Needs.{needs}
-use Rattle.syntax.proofs.expression.infix_at.Statement.{statement}
-use Rattle.syntax.proofs.expression.infix_at.Tie as tie
+use Rattle.reader.proofs.infix_at.Statement.{statement}
+use Rattle.reader.proofs.infix_at.Tie as tie
 
 kind-at-requires : tie.Need-kind-at-requires
 kind-at-requires c κs = search needs

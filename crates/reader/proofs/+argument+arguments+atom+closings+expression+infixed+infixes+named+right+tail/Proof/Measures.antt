@@ -3,26 +3,26 @@
 use Prim.Native.Nat.{ℕ, _+_, _-_, _*_, _<_}
 use borrow.Fn.Kinds.{In}
 use borrow.Fn.PlainCycle.{Measures, is, falls, and}
-use Rattle.syntax.proofs.expression.argument.Reads as argument
-use Rattle.syntax.proofs.expression.arguments.Reads as arguments
-use Rattle.syntax.proofs.expression.atom.Reads as atom
-use Rattle.syntax.proofs.expression.closings.Reads as closings
-use Rattle.syntax.proofs.expression.expression.Reads as expression
-use Rattle.syntax.proofs.expression.infixed.Reads as infixed
-use Rattle.syntax.proofs.expression.infixes.Reads as infixes
-use Rattle.syntax.proofs.expression.named.Reads as named
-use Rattle.syntax.proofs.expression.right.Reads as right
-use Rattle.syntax.proofs.expression.tail.Reads as tail
-use Rattle.syntax.proofs.expression.argument.Kinds as argument-kinds
-use Rattle.syntax.proofs.expression.arguments.Kinds as arguments-kinds
-use Rattle.syntax.proofs.expression.atom.Kinds as atom-kinds
-use Rattle.syntax.proofs.expression.closings.Kinds as closings-kinds
-use Rattle.syntax.proofs.expression.expression.Kinds as expression-kinds
-use Rattle.syntax.proofs.expression.infixed.Kinds as infixed-kinds
-use Rattle.syntax.proofs.expression.infixes.Kinds as infixes-kinds
-use Rattle.syntax.proofs.expression.named.Kinds as named-kinds
-use Rattle.syntax.proofs.expression.right.Kinds as right-kinds
-use Rattle.syntax.proofs.expression.tail.Kinds as tail-kinds
+use Rattle.reader.proofs.argument.Reads as argument
+use Rattle.reader.proofs.arguments.Reads as arguments
+use Rattle.reader.proofs.atom.Reads as atom
+use Rattle.reader.proofs.closings.Reads as closings
+use Rattle.reader.proofs.expression.Reads as expression
+use Rattle.reader.proofs.infixed.Reads as infixed
+use Rattle.reader.proofs.infixes.Reads as infixes
+use Rattle.reader.proofs.named.Reads as named
+use Rattle.reader.proofs.right.Reads as right
+use Rattle.reader.proofs.tail.Reads as tail
+use Rattle.reader.proofs.argument.Kinds as argument-kinds
+use Rattle.reader.proofs.arguments.Kinds as arguments-kinds
+use Rattle.reader.proofs.atom.Kinds as atom-kinds
+use Rattle.reader.proofs.closings.Kinds as closings-kinds
+use Rattle.reader.proofs.expression.Kinds as expression-kinds
+use Rattle.reader.proofs.infixed.Kinds as infixed-kinds
+use Rattle.reader.proofs.infixes.Kinds as infixes-kinds
+use Rattle.reader.proofs.named.Kinds as named-kinds
+use Rattle.reader.proofs.right.Kinds as right-kinds
+use Rattle.reader.proofs.tail.Kinds as tail-kinds
 
 abbrev pub μ-argument : Measures 3 argument-kinds.ps ℕ
 μ-argument κs a = 8 * a .1 .1 .1 .1 .0 + 3

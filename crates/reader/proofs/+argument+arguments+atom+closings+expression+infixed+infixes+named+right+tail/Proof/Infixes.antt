@@ -1,4 +1,4 @@
--- `expression::infixes` meets its contract. The loop's invariant: what is to come from here is what was to come from the start, and a row is
+-- `reader::infixes` meets its contract. The loop's invariant: what is to come from here is what was to come from the start, and a row is
 -- written. The measure is how many tokens are left.
 -- Assumes nothing.
 use borrow.Author.Tests.{not-true, not-false}
@@ -12,11 +12,11 @@ use borrow.Author.Needs.{needs}
 use native.Mathlib.Omega.{arith}
 use mathlib.Core.Path.{_≡_, sym, _∙_}
 use Prim.Native.Nat.{ℕ, _+_, _-_, _<_}
-use Rattle.syntax.proofs.expression.+argument+arguments+atom+closings+expression+infixed+infixes+named+right+tail.Proof.Measures.{infixed-below, infixes-at}
-use Rattle.syntax.proofs.expression.infixed.Reads as infixed
-use Rattle.syntax.proofs.expression.infixes.Reads as infixes
-use Rattle.syntax.proofs.expression.infix_at.Reads as infix-at-reads
-use Rattle.syntax.proofs.expression.+argument+arguments+atom+closings+expression+infixed+infixes+named+right+tail.Lts-infixes as infixes-lts
+use Rattle.reader.proofs.+argument+arguments+atom+closings+expression+infixed+infixes+named+right+tail.Proof.Measures.{infixed-below, infixes-at}
+use Rattle.reader.proofs.infixed.Reads as infixed
+use Rattle.reader.proofs.infixes.Reads as infixes
+use Rattle.reader.proofs.infix_at.Reads as infix-at-reads
+use Rattle.reader.proofs.+argument+arguments+atom+closings+expression+infixed+infixes+named+right+tail.Lts-infixes as infixes-lts
 
 -- what is known of the functions that it calls
 abbrev calls : ℕ → infixes-lts.Claims

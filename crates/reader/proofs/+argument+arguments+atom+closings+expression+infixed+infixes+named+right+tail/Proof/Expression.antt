@@ -1,4 +1,4 @@
--- `expression::expression` meets its contract: by what its openings come to, and by what it calls.
+-- `reader::expression` meets its contract: by what its openings come to, and by what it calls.
 -- Assumes nothing.
 use Rattle.grammar.proofs.Steps.{on, same-as, refused, ends}
 use Rattle.grammar.proofs.Going.{came, atom-ends, atom-some, expression-goes, expression-some}
@@ -6,13 +6,13 @@ use Rattle.grammar.proofs.Openings.{opened-is, expression-refused, expression-b
 use borrow.Author.Needs.{needs}
 use native.Mathlib.Omega.{arith}
 use mathlib.Core.Path.{sym, _∙_}
-use Prim.Native.Nat.{ℕ, _-_}
-use Rattle.syntax.proofs.expression.+argument+arguments+atom+closings+expression+infixed+infixes+named+right+tail.Proof.Measures.{atom-below, closings-below, expression-at}
-use Rattle.syntax.proofs.expression.atom.Reads as atom
-use Rattle.syntax.proofs.expression.closings.Reads as closings
-use Rattle.syntax.proofs.expression.expression.Reads as expression
+use Prim.Native.Nat.{ℕ}
+use Rattle.reader.proofs.+argument+arguments+atom+closings+expression+infixed+infixes+named+right+tail.Proof.Measures.{atom-below, closings-below, expression-at}
+use Rattle.reader.proofs.atom.Reads as atom
+use Rattle.reader.proofs.closings.Reads as closings
+use Rattle.reader.proofs.expression.Reads as expression
 use Rattle.grammar.proofs.opening.opened.Reads as opened-reads
-use Rattle.syntax.proofs.expression.+argument+arguments+atom+closings+expression+infixed+infixes+named+right+tail.Lts-expression as expression-lts
+use Rattle.reader.proofs.+argument+arguments+atom+closings+expression+infixed+infixes+named+right+tail.Lts-expression as expression-lts
 
 -- what is known of the functions that it calls
 abbrev calls : ℕ → expression-lts.Claims

@@ -1,4 +1,4 @@
--- `expression::infixed` meets its contract: by what it calls.
+-- `reader::infixed` meets its contract: by what it calls.
 -- Assumes nothing.
 use Rattle.tokens.specs.Token.{kindAt}
 use Rattle.grammar.specs.Operator.{infixOf, rightOf}
@@ -11,14 +11,14 @@ use borrow.Author.Needs.{needs}
 use native.Mathlib.Omega.{arith}
 use mathlib.Core.Path.{refl, sym}
 use Prim.Native.Nat.{ℕ, _-_}
-use Rattle.syntax.proofs.expression.+argument+arguments+atom+closings+expression+infixed+infixes+named+right+tail.Proof.Measures.{infixed-at, right-below}
-use Rattle.syntax.proofs.expression.infixed.Reads as infixed
-use Rattle.syntax.proofs.expression.right.Reads as right
+use Rattle.reader.proofs.+argument+arguments+atom+closings+expression+infixed+infixes+named+right+tail.Proof.Measures.{infixed-at, right-below}
+use Rattle.reader.proofs.infixed.Reads as infixed
+use Rattle.reader.proofs.right.Reads as right
 use Rattle.grammar.proofs.operator.right_of.Reads as right-of-reads
 use Rattle.grammar.proofs.operator.row_of.Reads as row-of-reads
 use Rattle.grammar.proofs.step.put.Reads as put-reads
 use Rattle.tokens.proofs.table.kind_at.Reads as kind-at-reads
-use Rattle.syntax.proofs.expression.+argument+arguments+atom+closings+expression+infixed+infixes+named+right+tail.Lts-infixed as infixed-lts
+use Rattle.reader.proofs.+argument+arguments+atom+closings+expression+infixed+infixes+named+right+tail.Lts-infixed as infixed-lts
 
 -- what is known of the functions that it calls
 abbrev calls : ℕ → infixed-lts.Claims

@@ -1,4 +1,4 @@
--- `expression::named` meets its contract: by its test, and by what it calls.
+-- `reader::named` meets its contract: by its test, and by what it calls.
 -- Assumes nothing.
 use Rattle.tokens.specs.Kind as kind
 use Rattle.grammar.proofs.Steps.{same-as, named-open, named-column}
@@ -6,13 +6,13 @@ use Rattle.grammar.proofs.Going.{kind-is}
 use borrow.Author.Needs.{needs}
 use native.Mathlib.Omega.{arith}
 use mathlib.Core.Path.{sym, _∙_}
-use Prim.Native.Nat.{ℕ, _-_}
-use Rattle.syntax.proofs.expression.+argument+arguments+atom+closings+expression+infixed+infixes+named+right+tail.Proof.Measures.{arguments-below, named-at}
-use Rattle.syntax.proofs.expression.arguments.Reads as arguments
-use Rattle.syntax.proofs.expression.named.Reads as named
+use Prim.Native.Nat.{ℕ}
+use Rattle.reader.proofs.+argument+arguments+atom+closings+expression+infixed+infixes+named+right+tail.Proof.Measures.{arguments-below, named-at}
+use Rattle.reader.proofs.arguments.Reads as arguments
+use Rattle.reader.proofs.named.Reads as named
 use Rattle.grammar.proofs.leaf.column.Reads as column-reads
 use Rattle.tokens.proofs.table.kind_at.Reads as kind-at-reads
-use Rattle.syntax.proofs.expression.+argument+arguments+atom+closings+expression+infixed+infixes+named+right+tail.Lts-named as named-lts
+use Rattle.reader.proofs.+argument+arguments+atom+closings+expression+infixed+infixes+named+right+tail.Lts-named as named-lts
 
 -- what is known of the functions that it calls
 abbrev calls : ℕ → named-lts.Claims

@@ -1,19 +1,18 @@
--- `expression::right` meets its contract: where the operand is seen to be one token, by what is said of it, else by the reader.
+-- `reader::right` meets its contract: where the operand is seen to be one token, by what is said of it, else by the reader.
 -- Assumes nothing.
 use Rattle.grammar.specs.Memory as M
-use Rattle.grammar.specs.Memory.{Gives}
 use Rattle.grammar.proofs.Steps.{same-as, alike, ends, one-less}
 use borrow.Author.Needs.{needs}
 use native.Mathlib.Omega.{arith}
-use mathlib.Core.Path.{sym, _∙_}
+use mathlib.Core.Path.{sym}
 use Prim.Native.Nat.{ℕ, _-_}
-use Rattle.syntax.proofs.expression.+argument+arguments+atom+closings+expression+infixed+infixes+named+right+tail.Proof.Measures.{expression-below, right-at}
-use Rattle.syntax.proofs.expression.expression.Reads as expression
-use Rattle.syntax.proofs.expression.right.Reads as right
+use Rattle.reader.proofs.+argument+arguments+atom+closings+expression+infixed+infixes+named+right+tail.Proof.Measures.{expression-below, right-at}
+use Rattle.reader.proofs.expression.Reads as expression
+use Rattle.reader.proofs.right.Reads as right
 use Rattle.grammar.proofs.leaf.alone.Reads as alone-reads
 use Rattle.grammar.proofs.step.again.Reads as again-reads
 use Rattle.grammar.proofs.step.leaf.Reads as leaf-reads
-use Rattle.syntax.proofs.expression.+argument+arguments+atom+closings+expression+infixed+infixes+named+right+tail.Lts-right as right-lts
+use Rattle.reader.proofs.+argument+arguments+atom+closings+expression+infixed+infixes+named+right+tail.Lts-right as right-lts
 
 -- what is known of the functions that it calls
 abbrev calls : ℕ → right-lts.Claims

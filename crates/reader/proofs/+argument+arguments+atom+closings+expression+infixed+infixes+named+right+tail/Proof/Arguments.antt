@@ -1,4 +1,4 @@
--- `expression::arguments` meets its contract. The loop's invariant: what is to come from here is what was to come from the start. The measure is
+-- `reader::arguments` meets its contract. The loop's invariant: what is to come from here is what was to come from the start. The measure is
 -- how many tokens are left; there are no more arguments than tokens.
 -- Assumes nothing.
 use Rattle.tokens.specs.Kind as kind
@@ -10,12 +10,12 @@ use borrow.Author.Needs.{needs}
 use native.Mathlib.Omega.{arith}
 use mathlib.Core.Path.{_≡_, sym, _∙_}
 use Prim.Native.Nat.{ℕ, _+_, _-_, _≤_}
-use Rattle.syntax.proofs.expression.+argument+arguments+atom+closings+expression+infixed+infixes+named+right+tail.Proof.Measures.{argument-below, arguments-at}
-use Rattle.syntax.proofs.expression.argument.Reads as argument
-use Rattle.syntax.proofs.expression.arguments.Reads as arguments
+use Rattle.reader.proofs.+argument+arguments+atom+closings+expression+infixed+infixes+named+right+tail.Proof.Measures.{argument-below, arguments-at}
+use Rattle.reader.proofs.argument.Reads as argument
+use Rattle.reader.proofs.arguments.Reads as arguments
 use Rattle.grammar.proofs.step.put.Reads as put-reads
 use Rattle.tokens.proofs.table.kind_at.Reads as kind-at-reads
-use Rattle.syntax.proofs.expression.+argument+arguments+atom+closings+expression+infixed+infixes+named+right+tail.Lts-arguments as arguments-lts
+use Rattle.reader.proofs.+argument+arguments+atom+closings+expression+infixed+infixes+named+right+tail.Lts-arguments as arguments-lts
 
 -- what is known of the functions that it calls
 abbrev calls : ℕ → arguments-lts.Claims

@@ -11,27 +11,27 @@ mod Infixes
 mod Named
 mod Right
 mod Tail
-use Rattle.syntax.proofs.expression.+argument+arguments+atom+closings+expression+infixed+infixes+named+right+tail.Proof.Measures.{μ-argument, μ-arguments, μ-atom, μ-closings, μ-expression, μ-infixed, μ-infixes, μ-named, μ-right, μ-tail, argument-at, argument-below, arguments-at, arguments-below, atom-at, atom-below, closings-at, closings-below, expression-at, expression-below, infixed-at, infixed-below, infixes-at, infixes-below, named-at, named-below, right-at, right-below, tail-at, tail-below}
-use Rattle.syntax.proofs.expression.+argument+arguments+atom+closings+expression+infixed+infixes+named+right+tail.Proof.Argument.{argument-expression-requires, argument-again-requires, argument-same-length, argument-returns, argument-need-requires, argument-enum-known-s, argument-enum-told, argument-returns-2, argument-expression-requires-2, argument-again-requires-2, argument-same-length-2, argument-returns-3}
-use Rattle.syntax.proofs.expression.+argument+arguments+atom+closings+expression+infixed+infixes+named+right+tail.Proof.Arguments.{arguments-Inv-loop, arguments-μ-loop, arguments-loop-holds, arguments-kind-at-requires, arguments-add-after, arguments-put-requires, arguments-same-length, arguments-returns, arguments-argument-requires, arguments-enum-known-s, arguments-enum-told, arguments-same-length-2, arguments-returns-2, arguments-add-n, arguments-loop-less, arguments-loop-again}
-use Rattle.syntax.proofs.expression.+argument+arguments+atom+closings+expression+infixed+infixes+named+right+tail.Proof.Atom.{atom-kind-at-requires, atom-start-of-requires, atom-enum-told, atom-enum-told-2, atom-numeral-requires, atom-enum-told-3, atom-leaf-requires, atom-enum-told-4, atom-named-requires, atom-enum-known-kind, atom-leaf-requires-2, atom-enum-told-5, atom-enum-told-6, atom-returns, atom-same-length, atom-returns-2, atom-same-length-2, atom-returns-3, atom-same-length-3, atom-returns-4, atom-same-length-4, atom-returns-5, atom-returns-6, atom-returns-7}
-use Rattle.syntax.proofs.expression.+argument+arguments+atom+closings+expression+infixed+infixes+named+right+tail.Proof.Closings.{closings-Inv-loop, closings-μ-loop, closings-loop-holds, closings-minimum-requires, closings-tail-requires, closings-enum-known-s, closings-enum-told, closings-same-length, closings-returns, closings-same-length-2, closings-returns-2, closings-sub-at, closings-add-rest, closings-kind-at-requires, closings-closed-requires, closings-enum-known-s-2, closings-enum-told-2, closings-same-length-3, closings-returns-3, closings-loop-less, closings-loop-again}
-use Rattle.syntax.proofs.expression.+argument+arguments+atom+closings+expression+infixed+infixes+named+right+tail.Proof.Expression.{expression-opened-requires, expression-returns, expression-sub-rest, expression-atom-requires, expression-enum-known-s, expression-enum-told, expression-same-length, expression-returns-2, expression-closings-requires, expression-same-length-2, expression-returns-3}
-use Rattle.syntax.proofs.expression.+argument+arguments+atom+closings+expression+infixed+infixes+named+right+tail.Proof.Infixed.{infixed-kind-at-requires, infixed-sub-left, infixed-add-after, infixed-right-of-requires, infixed-right-requires, infixed-enum-known-s, infixed-enum-told, infixed-same-length, infixed-returns, infixed-sub-right, infixed-row-of-requires, infixed-put-requires, infixed-same-length-2, infixed-returns-2}
-use Rattle.syntax.proofs.expression.+argument+arguments+atom+closings+expression+infixed+infixes+named+right+tail.Proof.Infixes.{infixes-Inv-loop, infixes-μ-loop, infixes-loop-holds, infixes-infix-at-requires, infixes-same-length, infixes-returns, infixes-infixed-requires, infixes-enum-known-s, infixes-enum-told, infixes-same-length-2, infixes-returns-2, infixes-loop-less, infixes-loop-again}
-use Rattle.syntax.proofs.expression.+argument+arguments+atom+closings+expression+infixed+infixes+named+right+tail.Proof.Named.{named-add-after, named-kind-at-requires, named-column-requires, named-same-length, named-returns, named-add-first, named-arguments-requires, named-same-length-2, named-returns-2}
-use Rattle.syntax.proofs.expression.+argument+arguments+atom+closings+expression+infixed+infixes+named+right+tail.Proof.Right.{right-returns, right-alone-requires, right-enum-known-kind, right-leaf-requires, right-enum-told, right-expression-requires, right-again-requires, right-same-length, right-returns-2, right-same-length-2, right-returns-3}
-use Rattle.syntax.proofs.expression.+argument+arguments+atom+closings+expression+infixed+infixes+named+right+tail.Proof.Tail.{tail-kind-at-requires, tail-operates-requires, tail-returns, tail-any-postfixes-requires, tail-enum-known-first, tail-enum-told, tail-same-length, tail-returns-2, tail-infixes-requires, tail-enum-known-second, tail-enum-told-2, tail-same-length-2, tail-returns-3, tail-postfix-at-requires, tail-same-length-3, tail-returns-4, tail-postfixes-requires, tail-again-requires, tail-same-length-4, tail-returns-5}
-use Rattle.syntax.proofs.expression.argument.Reads as argument
-use Rattle.syntax.proofs.expression.arguments.Reads as arguments
-use Rattle.syntax.proofs.expression.atom.Reads as atom
-use Rattle.syntax.proofs.expression.closings.Reads as closings
-use Rattle.syntax.proofs.expression.expression.Reads as expression
-use Rattle.syntax.proofs.expression.infixed.Reads as infixed
-use Rattle.syntax.proofs.expression.infixes.Reads as infixes
-use Rattle.syntax.proofs.expression.named.Reads as named
-use Rattle.syntax.proofs.expression.right.Reads as right
-use Rattle.syntax.proofs.expression.tail.Reads as tail
+use Rattle.reader.proofs.+argument+arguments+atom+closings+expression+infixed+infixes+named+right+tail.Proof.Measures.{μ-argument, μ-arguments, μ-atom, μ-closings, μ-expression, μ-infixed, μ-infixes, μ-named, μ-right, μ-tail, argument-at, argument-below, arguments-at, arguments-below, atom-at, atom-below, closings-at, closings-below, expression-at, expression-below, infixed-at, infixed-below, infixes-at, infixes-below, named-at, named-below, right-at, right-below, tail-at, tail-below}
+use Rattle.reader.proofs.+argument+arguments+atom+closings+expression+infixed+infixes+named+right+tail.Proof.Argument.{argument-expression-requires, argument-again-requires, argument-same-length, argument-returns, argument-need-requires, argument-enum-known-s, argument-enum-told, argument-returns-2, argument-expression-requires-2, argument-again-requires-2, argument-same-length-2, argument-returns-3}
+use Rattle.reader.proofs.+argument+arguments+atom+closings+expression+infixed+infixes+named+right+tail.Proof.Arguments.{arguments-Inv-loop, arguments-μ-loop, arguments-loop-holds, arguments-kind-at-requires, arguments-add-after, arguments-put-requires, arguments-same-length, arguments-returns, arguments-argument-requires, arguments-enum-known-s, arguments-enum-told, arguments-same-length-2, arguments-returns-2, arguments-add-n, arguments-loop-less, arguments-loop-again}
+use Rattle.reader.proofs.+argument+arguments+atom+closings+expression+infixed+infixes+named+right+tail.Proof.Atom.{atom-kind-at-requires, atom-start-of-requires, atom-enum-told, atom-enum-told-2, atom-numeral-requires, atom-enum-told-3, atom-leaf-requires, atom-enum-told-4, atom-named-requires, atom-enum-known-kind, atom-leaf-requires-2, atom-enum-told-5, atom-enum-told-6, atom-returns, atom-same-length, atom-returns-2, atom-same-length-2, atom-returns-3, atom-same-length-3, atom-returns-4, atom-same-length-4, atom-returns-5, atom-returns-6, atom-returns-7}
+use Rattle.reader.proofs.+argument+arguments+atom+closings+expression+infixed+infixes+named+right+tail.Proof.Closings.{closings-Inv-loop, closings-μ-loop, closings-loop-holds, closings-minimum-requires, closings-tail-requires, closings-enum-known-s, closings-enum-told, closings-same-length, closings-returns, closings-same-length-2, closings-returns-2, closings-sub-at, closings-add-rest, closings-kind-at-requires, closings-closed-requires, closings-enum-known-s-2, closings-enum-told-2, closings-same-length-3, closings-returns-3, closings-loop-less, closings-loop-again}
+use Rattle.reader.proofs.+argument+arguments+atom+closings+expression+infixed+infixes+named+right+tail.Proof.Expression.{expression-opened-requires, expression-returns, expression-sub-rest, expression-atom-requires, expression-enum-known-s, expression-enum-told, expression-same-length, expression-returns-2, expression-closings-requires, expression-same-length-2, expression-returns-3}
+use Rattle.reader.proofs.+argument+arguments+atom+closings+expression+infixed+infixes+named+right+tail.Proof.Infixed.{infixed-kind-at-requires, infixed-sub-left, infixed-add-after, infixed-right-of-requires, infixed-right-requires, infixed-enum-known-s, infixed-enum-told, infixed-same-length, infixed-returns, infixed-sub-right, infixed-row-of-requires, infixed-put-requires, infixed-same-length-2, infixed-returns-2}
+use Rattle.reader.proofs.+argument+arguments+atom+closings+expression+infixed+infixes+named+right+tail.Proof.Infixes.{infixes-Inv-loop, infixes-μ-loop, infixes-loop-holds, infixes-infix-at-requires, infixes-same-length, infixes-returns, infixes-infixed-requires, infixes-enum-known-s, infixes-enum-told, infixes-same-length-2, infixes-returns-2, infixes-loop-less, infixes-loop-again}
+use Rattle.reader.proofs.+argument+arguments+atom+closings+expression+infixed+infixes+named+right+tail.Proof.Named.{named-add-after, named-kind-at-requires, named-column-requires, named-same-length, named-returns, named-add-first, named-arguments-requires, named-same-length-2, named-returns-2}
+use Rattle.reader.proofs.+argument+arguments+atom+closings+expression+infixed+infixes+named+right+tail.Proof.Right.{right-returns, right-alone-requires, right-enum-known-kind, right-leaf-requires, right-enum-told, right-expression-requires, right-again-requires, right-same-length, right-returns-2, right-same-length-2, right-returns-3}
+use Rattle.reader.proofs.+argument+arguments+atom+closings+expression+infixed+infixes+named+right+tail.Proof.Tail.{tail-kind-at-requires, tail-operates-requires, tail-returns, tail-any-postfixes-requires, tail-enum-known-first, tail-enum-told, tail-same-length, tail-returns-2, tail-infixes-requires, tail-enum-known-second, tail-enum-told-2, tail-same-length-2, tail-returns-3, tail-postfix-at-requires, tail-same-length-3, tail-returns-4, tail-postfixes-requires, tail-again-requires, tail-same-length-4, tail-returns-5}
+use Rattle.reader.proofs.argument.Reads as argument
+use Rattle.reader.proofs.arguments.Reads as arguments
+use Rattle.reader.proofs.atom.Reads as atom
+use Rattle.reader.proofs.closings.Reads as closings
+use Rattle.reader.proofs.expression.Reads as expression
+use Rattle.reader.proofs.infixed.Reads as infixed
+use Rattle.reader.proofs.infixes.Reads as infixes
+use Rattle.reader.proofs.named.Reads as named
+use Rattle.reader.proofs.right.Reads as right
+use Rattle.reader.proofs.tail.Reads as tail
 use Rattle.grammar.proofs.leaf.alone.Reads as alone-reads
 use Rattle.grammar.proofs.leaf.column.Reads as column-reads
 use Rattle.grammar.proofs.leaf.numeral.Reads as numeral-reads
@@ -49,20 +49,20 @@ use Rattle.grammar.proofs.step.again.Reads as again-reads
 use Rattle.grammar.proofs.step.leaf.Reads as leaf-reads
 use Rattle.grammar.proofs.step.need.Reads as need-reads
 use Rattle.grammar.proofs.step.put.Reads as put-reads
-use Rattle.syntax.proofs.expression.infix_at.Reads as infix-at-reads
+use Rattle.reader.proofs.infix_at.Reads as infix-at-reads
 use Rattle.tokens.proofs.table.kind_at.Reads as kind-at-reads
-use Rattle.syntax.proofs.expression.+argument+arguments+atom+closings+expression+infixed+infixes+named+right+tail.Lts-argument as argument-lts
-use Rattle.syntax.proofs.expression.+argument+arguments+atom+closings+expression+infixed+infixes+named+right+tail.Lts-arguments as arguments-lts
-use Rattle.syntax.proofs.expression.+argument+arguments+atom+closings+expression+infixed+infixes+named+right+tail.Lts-atom as atom-lts
-use Rattle.syntax.proofs.expression.+argument+arguments+atom+closings+expression+infixed+infixes+named+right+tail.Lts-closings as closings-lts
-use Rattle.syntax.proofs.expression.+argument+arguments+atom+closings+expression+infixed+infixes+named+right+tail.Lts-expression as expression-lts
-use Rattle.syntax.proofs.expression.+argument+arguments+atom+closings+expression+infixed+infixes+named+right+tail.Lts-infixed as infixed-lts
-use Rattle.syntax.proofs.expression.+argument+arguments+atom+closings+expression+infixed+infixes+named+right+tail.Lts-infixes as infixes-lts
-use Rattle.syntax.proofs.expression.+argument+arguments+atom+closings+expression+infixed+infixes+named+right+tail.Lts-named as named-lts
-use Rattle.syntax.proofs.expression.+argument+arguments+atom+closings+expression+infixed+infixes+named+right+tail.Lts-right as right-lts
-use Rattle.syntax.proofs.expression.+argument+arguments+atom+closings+expression+infixed+infixes+named+right+tail.Lts-tail as tail-lts
-use Rattle.syntax.proofs.expression.+argument+arguments+atom+closings+expression+infixed+infixes+named+right+tail.{statement}
-use Rattle.syntax.proofs.expression.+argument+arguments+atom+closings+expression+infixed+infixes+named+right+tail.Tie.{close}
+use Rattle.reader.proofs.+argument+arguments+atom+closings+expression+infixed+infixes+named+right+tail.Lts-argument as argument-lts
+use Rattle.reader.proofs.+argument+arguments+atom+closings+expression+infixed+infixes+named+right+tail.Lts-arguments as arguments-lts
+use Rattle.reader.proofs.+argument+arguments+atom+closings+expression+infixed+infixes+named+right+tail.Lts-atom as atom-lts
+use Rattle.reader.proofs.+argument+arguments+atom+closings+expression+infixed+infixes+named+right+tail.Lts-closings as closings-lts
+use Rattle.reader.proofs.+argument+arguments+atom+closings+expression+infixed+infixes+named+right+tail.Lts-expression as expression-lts
+use Rattle.reader.proofs.+argument+arguments+atom+closings+expression+infixed+infixes+named+right+tail.Lts-infixed as infixed-lts
+use Rattle.reader.proofs.+argument+arguments+atom+closings+expression+infixed+infixes+named+right+tail.Lts-infixes as infixes-lts
+use Rattle.reader.proofs.+argument+arguments+atom+closings+expression+infixed+infixes+named+right+tail.Lts-named as named-lts
+use Rattle.reader.proofs.+argument+arguments+atom+closings+expression+infixed+infixes+named+right+tail.Lts-right as right-lts
+use Rattle.reader.proofs.+argument+arguments+atom+closings+expression+infixed+infixes+named+right+tail.Lts-tail as tail-lts
+use Rattle.reader.proofs.+argument+arguments+atom+closings+expression+infixed+infixes+named+right+tail.{statement}
+use Rattle.reader.proofs.+argument+arguments+atom+closings+expression+infixed+infixes+named+right+tail.Tie.{close}
 
 pub +argument+arguments+atom+closings+expression+infixed+infixes+named+right+tail-spec :
     {M : Type 1} → statement M

@@ -1,17 +1,17 @@
--- `expression::argument` meets its contract: by its test, and by what it calls.
+-- `reader::argument` meets its contract: by its test, and by what it calls.
 -- Assumes nothing.
 use Rattle.grammar.proofs.Steps.{on, same-as, refused, alike, argument-first, argument-next}
 use Rattle.grammar.proofs.Going.{came, need-goes}
 use borrow.Author.Needs.{needs}
 use native.Mathlib.Omega.{arith}
 use mathlib.Core.Path.{sym, _∙_}
-use Prim.Native.Nat.{ℕ, _-_}
-use Rattle.syntax.proofs.expression.+argument+arguments+atom+closings+expression+infixed+infixes+named+right+tail.Proof.Measures.{argument-at, expression-below}
-use Rattle.syntax.proofs.expression.argument.Reads as argument
-use Rattle.syntax.proofs.expression.expression.Reads as expression
+use Prim.Native.Nat.{ℕ}
+use Rattle.reader.proofs.+argument+arguments+atom+closings+expression+infixed+infixes+named+right+tail.Proof.Measures.{argument-at, expression-below}
+use Rattle.reader.proofs.argument.Reads as argument
+use Rattle.reader.proofs.expression.Reads as expression
 use Rattle.grammar.proofs.step.again.Reads as again-reads
 use Rattle.grammar.proofs.step.need.Reads as need-reads
-use Rattle.syntax.proofs.expression.+argument+arguments+atom+closings+expression+infixed+infixes+named+right+tail.Lts-argument as argument-lts
+use Rattle.reader.proofs.+argument+arguments+atom+closings+expression+infixed+infixes+named+right+tail.Lts-argument as argument-lts
 
 -- what is known of the functions that it calls
 abbrev calls : ℕ → argument-lts.Claims

@@ -1,4 +1,4 @@
--- `expression::tail` meets its contract: each step goes on from where the one before came to, within the tokens and with a row written.
+-- `reader::tail` meets its contract: each step goes on from where the one before came to, within the tokens and with a row written.
 -- Assumes nothing.
 use borrow.Author.Tests.{not-true}
 use Rattle.tokens.specs.Token.{count}
@@ -10,17 +10,17 @@ use Rattle.grammar.proofs.Alone.{operates-not, tail-off}
 use borrow.Author.Needs.{needs}
 use native.Mathlib.Omega.{arith}
 use mathlib.Core.Path.{refl, sym, ap, _∙_}
-use Prim.Native.Nat.{ℕ, _-_, _<_, _≤_}
-use Rattle.syntax.proofs.expression.+argument+arguments+atom+closings+expression+infixed+infixes+named+right+tail.Proof.Measures.{infixes-below, tail-at}
-use Rattle.syntax.proofs.expression.infixes.Reads as infixes
-use Rattle.syntax.proofs.expression.tail.Reads as tail
+use Prim.Native.Nat.{ℕ, _<_, _≤_}
+use Rattle.reader.proofs.+argument+arguments+atom+closings+expression+infixed+infixes+named+right+tail.Proof.Measures.{infixes-below, tail-at}
+use Rattle.reader.proofs.infixes.Reads as infixes
+use Rattle.reader.proofs.tail.Reads as tail
 use Rattle.grammar.proofs.operator.operates.Reads as operates-reads
 use Rattle.grammar.proofs.postfix.any_postfixes.Reads as any-postfixes-reads
 use Rattle.grammar.proofs.postfix.postfix_at.Reads as postfix-at-reads
 use Rattle.grammar.proofs.postfix.postfixes.Reads as postfixes-reads
 use Rattle.grammar.proofs.step.again.Reads as again-reads
 use Rattle.tokens.proofs.table.kind_at.Reads as kind-at-reads
-use Rattle.syntax.proofs.expression.+argument+arguments+atom+closings+expression+infixed+infixes+named+right+tail.Lts-tail as tail-lts
+use Rattle.reader.proofs.+argument+arguments+atom+closings+expression+infixed+infixes+named+right+tail.Lts-tail as tail-lts
 
 -- what is known of the functions that it calls
 abbrev calls : ℕ → tail-lts.Claims
