@@ -1,5 +1,5 @@
 -- Operands of one token: where no operator follows, an operand's tail is nothing (`tail-off`); so where an atom is a leaf and ends, the
--- expression is that leaf (`alone-number`, `alone-string`, `alone-name`).
+-- expression is that leaf (`stands-number`, `stands-string`, `stands-name`).
 -- Assumes nothing.
 use mathlib.Core.Path.{_≡_, refl, sym, ap, _∙_}
 use mathlib.Core.Bool.{Bool, true, false, _&&_}
@@ -132,15 +132,15 @@ module _ (text ts : List ℕ) where
         ∙ ap (λ (o : Out). then o (tail text ts (expression text ts levels) m)) is
         ∙ leaf-ends (expression text ts levels) m k x c t e
 
-    pub alone-number : kindAt ts (c .at) ≡ kind.number → (x : ℕ) → numberOf (spelled text ts (c .at)) ≡ Integer x → expression text ts (suc levels) m c t ≡ leaf row.integer x c t
+    alone-number : kindAt ts (c .at) ≡ kind.number → (x : ℕ) → numberOf (spelled text ts (c .at)) ≡ Integer x → expression text ts (suc levels) m c t ≡ leaf row.integer x c t
     unfolding opens prefixOf among binds startOf atom numeral
     alone-number is x n = by-atom row.integer x (rw is refl) (atom-by text ts _ c t {b = start.Number} (ap startOf is) ∙ ap (λ (y : Number). numeral y c t) n)
 
-    pub alone-string : kindAt ts (c .at) ≡ kind.string → expression text ts (suc levels) m c t ≡ leaf row.string (c .at) c t
+    alone-string : kindAt ts (c .at) ≡ kind.string → expression text ts (suc levels) m c t ≡ leaf row.string (c .at) c t
     unfolding opens prefixOf among binds startOf atom
     alone-string is = by-atom row.string (c .at) (rw is refl) (atom-by text ts _ c t {b = start.Text} (ap startOf is))
 
-    pub alone-name : kindAt ts (c .at) ≡ kind.ident → expression text ts (suc levels) m c t ≡ leaf row.column (c .at) c t
+    alone-name : kindAt ts (c .at) ≡ kind.ident → expression text ts (suc levels) m c t ≡ leaf row.column (c .at) c t
     unfolding opens prefixOf among binds startOf atom
     alone-name is =
         by-atom row.column (c .at) (rw is refl)

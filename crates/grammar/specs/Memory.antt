@@ -1,5 +1,6 @@
 -- The reading rules with the row table passed along: what the inner functions promise. Rule by rule the text is that of Rules, with a row
--- written where that builds a tree; and beside them `opened` and `closings`, by which a run of openings is read in a loop. No entry's promise
+-- written where that builds a tree; and beside them `opened` and `closings`, by which a run of openings is read in a loop, and
+-- `Ends` and `Stands`, by which an operand is seen to be one token. No entry's promise
 -- names this file.
 use mathlib.Core.Path.{_≡_}
 use Prim.Native.Nat.{ℕ, zero, suc, _+_, _-_, _*_}

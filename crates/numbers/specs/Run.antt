@@ -1,4 +1,4 @@
--- What the parts of the number rule's code promise each other, by places in the spelling. No public promise names this file.
+-- What the parts of the number rule's code promise each other, by places in the spelling. No entry's promise names this file.
 use mathlib.Core.Path.{_≡_}
 use Prim.Native.Nat.{ℕ, _≤_, min}
 use mathlib.Core.Bool.{true, false}

@@ -1,5 +1,10 @@
 // The reader at a minimum precedence, and the reader of atoms: each calls the other, with fewer levels left each time round. A run of openings is
-// read in a loop, so `((a))` and `- - a` take no call for each.
+// read in a loop, so `((a))` and `- - a` take no call for each. grammar/specs/Rules has the rules; grammar/specs/Memory has what is promised here.
+//
+// `2 ^ 3 ^ 2 - 4 * 3` shows how. The whole is read at minimum 0: the atom `2`, and then infix operators, each with its right side. `^` is read
+// at its own precedence, 8, so that `3 ^ 2` is its right side; `-`, of precedence 6, is not at least 8 and ends it. Back at minimum 0 `-` is taken,
+// with a right side at 7: `4 * 3`, since `*` has 7. Each tree's row is written once its operands stand before it, so the rows come out in post-order:
+// 2, 3, 2, ^, ^, 4, 3, *, -.
 //
 // A call that stays a call in the compiled code is lent `&*text` and `&*tokens`: so the compiler keeps a slice's two halves apart, and reads take half
 // the time.
@@ -113,7 +118,8 @@ fn closings(
     }
 }
 
-// What follows an operand: postfix operators, infix operators, and postfix operators once more. Where no operator stands, one look is enough.
+// What follows an operand: postfix operators, infix operators, and postfix operators once more. Where no operator stands, one look is enough. The last
+// round is `any_postfixes` written out: called twice, that would be a call in the compiled code too.
 fn tail(text: &[u8], tokens: &[u32], rows: &mut [u64], c: Cursor, rest: usize, min: u32) -> Step
     requires { ⌜ (c .at ≤ count (now tokens)) × (0 < c .rows) ⌝ }
     ensures { λ r. ⌜ Gives (tailOf (now (text .entry)) (now (tokens .entry)) (expressionOf (now (text .entry)) (now (tokens .entry)) rest) min c (now (rows .entry))) r (now (rows .exit)) ⌝ }

@@ -1,9 +1,5 @@
-// Expressions: tokens are read into the rows of a syntax tree.
-//
-// `2 ^ 3 ^ 2 - 4 * 3` shows how. The whole is read at minimum 0: the atom `2`, and then infix operators, each with its right side. `^` is read
-// at its own precedence, 8, so that `3 ^ 2` is its right side; `-`, of precedence 6, is not at least 8 and ends it. Back at minimum 0 `-` is taken,
-// with a right side at 7: `4 * 3`, since `*` has 7. Each tree's row is written once its operands stand before it, so the rows come out in post-order:
-// 2, 3, 2, ^, ^, 4, 3, *, -.
+// Whole expressions: a table of tokens is checked, read by the reader as one expression, and what is refused leaves a table of zeros.
+// docs/FORMAT.md has the rules; specs/Promise has what `parse` promises, over the trees of grammar/specs/Rules.
 use grammar::step::Cursor;
 use grammar::step::Step;
 use tokens::refusal::Refusal;
