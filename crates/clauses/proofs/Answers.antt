@@ -15,18 +15,18 @@ use Rattle.tokens.specs.declared.refusal.Refusal.{Refusal}
 use Rattle.tokens.specs.declared.refusal.Refusal.the-variants.{TooMany, NoList}
 use Rattle.predicate.specs.Tree.{Tree, rootOf}
 use Rattle.predicate.specs.Read.{Reading, one, refused, readRows}
-use Rattle.clauses.specs.Clause.{Literal, literal, clausesMax, literalsMax, clauses, total, bit, code, numbers, endsFrom}
-use Rattle.clauses.specs.Kleene.{readBack, Means}
-use Rattle.clauses.specs.Size.{capped, sizeOf}
-use Rattle.clauses.specs.Chain.{Written}
+use Rattle.normal.specs.Clause.{Literal, literal, clausesMax, literalsMax, clauses, total, bit, code, numbers, endsFrom}
+use Rattle.normal.specs.Kleene.{readBack, Means}
+use Rattle.normal.specs.Size.{capped, sizeOf}
+use Rattle.chains.specs.Chain.{Written}
 use Rattle.clauses.specs.Split.{Split, listOf, splitOf, Gives, Promise}
-use Rattle.clauses.specs.declared.Size.{Size}
-use Rattle.clauses.specs.declared.Size.the-variants.{Many, Is}
+use Rattle.normal.specs.declared.Size.{Size}
+use Rattle.normal.specs.declared.Size.the-variants.{Many, Is}
 use Rattle.clauses.specs.declared.Listed.{Listed}
 use Rattle.clauses.specs.declared.Listed.the-variants.{Clauses, Refused}
-use Rattle.clauses.proofs.Sizes.{size-is, size-many}
-use Rattle.clauses.proofs.Writing.{length-ends}
-use Rattle.clauses.proofs.Meaning.{codes, read-back, clauses-mean}
+use Rattle.normal.proofs.Sizes.{size-is, size-many}
+use Rattle.chains.proofs.Writing.{length-ends}
+use Rattle.normal.proofs.Meaning.{codes, read-back, clauses-mean}
 
 -- ---- a clause list
 

@@ -1,7 +1,2 @@
--- What the contracts of `clauses` say, as definitions: read Clause for the clause list, Kleene for what it means, then Split for what is promised.
-pub mod Clause
-pub mod Kleene
+-- What `split` promises, as a definition. The clause list and what it means are those of `normal`.
 pub mod Split
-pub mod Size
-pub mod Part
-pub mod Chain

@@ -9,8 +9,8 @@ use Rattle.tokens.specs.declared.refusal.Refusal.{Refusal}
 use Rattle.tokens.specs.declared.refusal.Refusal.the-variants.{TooMany, NoList}
 use Rattle.predicate.specs.Tree.{Tree}
 use Rattle.predicate.specs.Read.{Reading, one, refused, readRows}
-use Rattle.clauses.specs.Clause.{Literal, clausesMax, literalsMax, clauses, total, numbers, endsFrom}
-use Rattle.clauses.specs.Kleene.{readBack, Means}
+use Rattle.normal.specs.Clause.{Literal, clausesMax, literalsMax, clauses, total, numbers, endsFrom}
+use Rattle.normal.specs.Kleene.{readBack, Means}
 use Rattle.clauses.specs.declared.Listed.{Listed}
 use Rattle.clauses.specs.declared.Listed.the-variants.{Clauses, Refused}
 

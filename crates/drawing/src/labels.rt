@@ -6,10 +6,12 @@ use crate::out::decimal;
 use crate::out::put;
 use crate::out::quoted;
 use grammar::kind;
-use lookup::value;
-use lookup::value::Value;
 use rows::Row;
 use tokens::table::spelled;
+use values::Value;
+use values::bits_of;
+use values::pattern_of;
+use values::value_of;
 
 fn truth(yes: bool) {
     if yes {
@@ -42,8 +44,8 @@ pub fn put_value(text: &[u8], v: Value) {
     match v {
         Value::Null => put(b"NULL"),
         Value::Boolean(b) => truth(b),
-        Value::Integer(n) => integer(value::pattern_of(n)),
-        Value::Float(f) => float(value::bits_of(f)),
+        Value::Integer(n) => integer(pattern_of(n)),
+        Value::Float(f) => float(bits_of(f)),
         Value::String { start, length } => quoted(text, start, length),
     }
 }
@@ -91,7 +93,7 @@ fn boolean(x: u64) {
 
 fn constant(text: &[u8], row: Row) {
     put(b" ");
-    put_value(text, value::value_of(row));
+    put_value(text, value_of(row));
 }
 
 // A syntax row. The arguments of a Function are drawn below it.

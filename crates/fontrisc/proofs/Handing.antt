@@ -5,8 +5,8 @@ use Prim.Native.Nat.{ℕ}
 use Rattle.tokens.specs.Refusal.{numberOf}
 use Rattle.tokens.specs.declared.refusal.Refusal.{Refusal}
 use Rattle.rows.specs.declared.Row.{Row}
-use Rattle.lookup.specs.Value.{rowOf}
-use Rattle.lookup.specs.declared.value.Value.{Value}
+use Rattle.values.specs.Value.{rowOf}
+use Rattle.values.specs.declared.Value.{Value}
 use Rattle.lookup.specs.declared.Found.{Found}
 use Rattle.lookup.specs.declared.Found.the-variants.{At, Refused}
 use Rattle.fontrisc.specs.Face.{valueCode, valueOut, Finds}

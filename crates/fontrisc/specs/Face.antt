@@ -13,7 +13,7 @@ use Rattle.syntax.specs.declared.Parsed.the-variants as parsed
 use Rattle.clauses.specs.Split.{Promise}
 use Rattle.clauses.specs.declared.Listed.{Listed}
 use Rattle.clauses.specs.declared.Listed.the-variants as listed
-use Rattle.lookup.specs.Value.{rowOf}
+use Rattle.values.specs.Value.{rowOf}
 use Rattle.lookup.specs.Answer.{LooksUp, asked, foundOf}
 use Rattle.lookup.specs.declared.Looked.{Looked}
 use Rattle.lookup.specs.declared.Looked.the-variants as looked

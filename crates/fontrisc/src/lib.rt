@@ -5,9 +5,9 @@
 use clauses::Listed;
 use lookup::Found;
 use lookup::Looked;
-use lookup::value::row_of;
 use syntax::Parsed;
 use tokens::refusal;
+use values::row_of;
 ghost use mathlib.Core.Path.{_≡_};
 ghost use Rattle.tokens.specs.Token.{spanAt};
 ghost use Rattle.predicate.specs.Read.{readRows};

@@ -18,27 +18,28 @@ use Rattle.predicate.specs.Read.{Reading, readRows, checkedOf}
 use Rattle.predicate.specs.declared.Checked.{Checked}
 use Rattle.predicate.specs.declared.Checked.the-variants.{Good, Refused}
 use Rattle.predicate.proofs.Accepted.{accepted, checked-refused, checked-good}
-use Rattle.clauses.specs.Clause.{clausesMax, literalsMax, Literal, clauses, total}
-use Rattle.clauses.specs.Size.{sizeOf}
-use Rattle.clauses.specs.declared.Size.{Size}
-use Rattle.clauses.specs.declared.Size.the-variants as size
-use Rattle.clauses.proofs.Sizes.{size-is, size-many}
+use Rattle.normal.specs.Clause.{clausesMax, literalsMax, Literal, clauses, total}
+use Rattle.normal.specs.Size.{sizeOf}
+use Rattle.normal.specs.declared.Size.{Size}
+use Rattle.normal.specs.declared.Size.the-variants as size
+use Rattle.normal.proofs.Sizes.{size-is, size-many}
 use Rattle.lookup.specs.Cell.{Cell, isTrue}
-use Rattle.lookup.specs.Lookup.{Look, on, none, testIn, lookIn, lookOf}
+use Rattle.columns.specs.Lookup.{Look, on, none, testIn, lookIn, lookOf}
 use Rattle.lookup.specs.Answer.{Asked, holds, refuse, askedOf, askedIn, asked, lookedOf, foundOf, clauseValue, anyMatch, handed, handedOut, LooksUp}
-use Rattle.lookup.specs.Gather.{gatherAll, values, Counted, Ready, answerOf, answered}
-use Rattle.lookup.specs.declared.test.Test.{Test}
-use Rattle.lookup.specs.declared.value.Value.{Value}
-use Rattle.lookup.specs.declared.value.Value.the-variants as value
-use Rattle.lookup.specs.declared.gather.Gathered.{Gathered}
-use Rattle.lookup.specs.declared.gather.Gathered.the-variants as gathered
+use Rattle.columns.specs.Gather.{gatherAll, values}
+use Rattle.lookup.specs.Find.{Counted, Ready, answerOf, answered}
+use Rattle.columns.specs.declared.test.Test.{Test}
+use Rattle.values.specs.declared.Value.{Value}
+use Rattle.values.specs.declared.Value.the-variants as value
+use Rattle.columns.specs.declared.gather.Gathered.{Gathered}
+use Rattle.columns.specs.declared.gather.Gathered.the-variants as gathered
 use Rattle.lookup.specs.declared.Answer.{Answer}
 use Rattle.lookup.specs.declared.Answer.the-variants as answer
 use Rattle.lookup.specs.declared.Looked.{Looked}
 use Rattle.lookup.specs.declared.Looked.the-variants as looked
 use Rattle.lookup.specs.declared.Found.{Found}
 use Rattle.lookup.specs.declared.Found.the-variants as found
-use Rattle.lookup.proofs.Gathering.{seen, gather-look}
+use Rattle.columns.proofs.Gathering.{seen, gather-look}
 use Rattle.lookup.proofs.Matching.{lookup-matches}
 
 -- ---- from the clause to its answer

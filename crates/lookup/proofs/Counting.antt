@@ -15,11 +15,11 @@ use Rattle.predicate.specs.Row.{shapeAt, arityOf, operandsOf}
 use Rattle.predicate.specs.Tree.{Tree, nodeOf, treeAt, Sound}
 use Rattle.predicate.specs.declared.Shape.{Shape}
 use Rattle.predicate.specs.declared.Shape.the-variants as shape
-use Rattle.clauses.specs.Clause.{clauses, bit}
-use Rattle.clauses.proofs.Sizes.{length-join, clauses-some}
-use Rattle.lookup.specs.Gather.{held, countOf, countIn, countsOf, Counted}
+use Rattle.normal.specs.Clause.{clauses, bit}
+use Rattle.normal.proofs.Sizes.{length-join, clauses-some}
+use Rattle.lookup.specs.Find.{held, countOf, countIn, countsOf, Counted}
 use Rattle.lookup.specs.declared.counts.Counts.{Counts}
-use Rattle.lookup.proofs.Testing.{node-at}
+use Rattle.columns.proofs.Testing.{node-at}
 
 -- ---- held sums and products
 

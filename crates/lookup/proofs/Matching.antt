@@ -7,17 +7,17 @@ use mathlib.Core.List.{List, [], _∷_, _++_, map}
 use native.Mathlib.Omega.{arith}
 use lib.Dec.{eqb}
 use lib.Ieee.{Float, nan, inf, fin, eq, isNan}
-use Rattle.clauses.specs.Kleene as kleene
-use Rattle.clauses.specs.Clause.{Literal}
-use Rattle.lookup.specs.Value.{valueOf}
+use Rattle.normal.specs.Kleene as kleene
+use Rattle.normal.specs.Clause.{Literal}
+use Rattle.values.specs.Value.{valueOf, undefined}
 use Rattle.lookup.specs.Cell.{Cell, null, boolean, integer, float, string, cellOf, isNull, isNaN, same, truth, isTrue, equal, is, matches}
-use Rattle.lookup.specs.Lookup.{on, none, testIn, tests, allTest, undefined, valueIn, valuesIn, lookOn, lookFrom, lookIn, lookOf}
+use Rattle.columns.specs.Lookup.{on, none, testIn, tests, allTest, valueIn, valuesIn, lookOn, lookFrom, lookIn, lookOf}
 use Rattle.lookup.specs.Answer.{testValue, clauseValue, anyMatch}
 use Rattle.rows.specs.declared.Row.{Row}
-use Rattle.lookup.specs.declared.test.Test.{Test}
-use Rattle.lookup.specs.declared.test.Test.the-variants.{Other, Equals, Is}
-use Rattle.lookup.specs.declared.value.Value.{Value}
-use Rattle.lookup.specs.declared.value.Value.the-variants as value
+use Rattle.columns.specs.declared.test.Test.{Test}
+use Rattle.columns.specs.declared.test.Test.the-variants.{Other, Equals, Is}
+use Rattle.values.specs.declared.Value.{Value}
+use Rattle.values.specs.declared.Value.the-variants as value
 
 -- NaN equals no float
 no-nan : (x y : Float) → isNan y ≡ true → eq x y ≡ false

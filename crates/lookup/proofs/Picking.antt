@@ -14,18 +14,19 @@ use lib.ListN.{length, getD, length-map, length-append, List·getD-append}
 use lib.Seq.{getD-append-add}
 use Rattle.predicate.specs.Tree.{treeAt, Sound}
 use Rattle.predicate.proofs.Trees.{sound-below}
-use Rattle.clauses.specs.Clause.{clausesMax, literalsMax, Literal, literal, cross, join, clauses, total, bit}
-use Rattle.clauses.specs.Part.{partAt}
-use Rattle.clauses.specs.declared.Part.{Part}
-use Rattle.clauses.specs.declared.Part.the-variants.{Here, Join}
-use Rattle.clauses.proofs.Sizes.{length-cross, total-append, total-cross, clauses-some}
-use Rattle.clauses.proofs.Rows.{part-is}
-use Rattle.lookup.specs.Lookup.{testIn}
-use Rattle.lookup.specs.Gather.{gather, gatherAll, values, held, countOf, Ready, gatheredOf, turnOf}
+use Rattle.normal.specs.Clause.{clausesMax, literalsMax, Literal, literal, cross, join, clauses, total, bit}
+use Rattle.normal.specs.Part.{partAt}
+use Rattle.normal.specs.declared.Part.{Part}
+use Rattle.normal.specs.declared.Part.the-variants.{Here, Join}
+use Rattle.normal.proofs.Sizes.{length-cross, total-append, total-cross, clauses-some}
+use Rattle.normal.proofs.Rows.{part-is}
+use Rattle.columns.specs.Lookup.{testIn}
+use Rattle.columns.specs.Gather.{gather, gatherAll, values}
+use Rattle.lookup.specs.Find.{held, countOf, Ready, gatheredOf, turnOf}
 use Rattle.lookup.specs.declared.clause.Turn.{Turn}
-use Rattle.lookup.specs.declared.gather.Gathered.{Gathered}
+use Rattle.columns.specs.declared.gather.Gathered.{Gathered}
 use Rattle.lookup.proofs.Counting.{at-least, at-least-right, counted-all}
-use Rattle.lookup.proofs.Gathering.{gather-append, all-values}
+use Rattle.columns.proofs.Gathering.{gather-append, all-values}
 
 -- ---- lists
 

@@ -5,19 +5,19 @@ use mathlib.Core.Bool.{Bool, true, false, _||_}
 use mathlib.Core.List.{List, [], _∷_, _++_}
 use lib.ListN.{length, getD}
 use lib.Dec.{ltb}
-use Rattle.clauses.specs.Kleene as kleene
+use Rattle.normal.specs.Kleene as kleene
 use Rattle.predicate.specs.Tree.{Tree}
 use Rattle.predicate.specs.Read.{Reading, one, refused, readRows}
-use Rattle.clauses.specs.Clause.{clausesMax, literalsMax, Literal, clauses, total}
-use Rattle.lookup.specs.Value.{valueOf}
+use Rattle.normal.specs.Clause.{clausesMax, literalsMax, Literal, clauses, total}
+use Rattle.values.specs.Value.{valueOf}
 use Rattle.lookup.specs.Cell.{Cell, cellOf, equal, is, isTrue, matches}
-use Rattle.lookup.specs.Lookup.{Look, on, none, lookOf, testIn}
+use Rattle.columns.specs.Lookup.{Look, on, none, lookOf, testIn}
 use Rattle.tokens.specs.declared.refusal.Refusal.{Refusal}
 use Rattle.tokens.specs.declared.refusal.Refusal.the-variants.{TooMany, NotLookup, NoSuch}
-use Rattle.lookup.specs.declared.test.Test.{Test}
-use Rattle.lookup.specs.declared.test.Test.the-variants.{Other, Equals, Is}
-use Rattle.lookup.specs.declared.value.Value.{Value}
-use Rattle.lookup.specs.declared.value.Value.the-variants.{Null}
+use Rattle.columns.specs.declared.test.Test.{Test}
+use Rattle.columns.specs.declared.test.Test.the-variants.{Other, Equals, Is}
+use Rattle.values.specs.declared.Value.{Value}
+use Rattle.values.specs.declared.Value.the-variants.{Null}
 use Rattle.lookup.specs.declared.Looked.{Looked}
 use Rattle.lookup.specs.declared.Looked.the-variants as looked
 use Rattle.lookup.specs.declared.Found.{Found}

@@ -6,9 +6,9 @@ use lib.ListN.{take, drop}
 use lib.Dec.{eqb}
 use lib.IntN.{ℤ, pos, negsuc}
 use lib.Ieee.{Float, eq, isNan}
-use Rattle.clauses.specs.Kleene as kleene
-use Rattle.lookup.specs.declared.value.Value.{Value}
-use Rattle.lookup.specs.declared.value.Value.the-variants as value
+use Rattle.normal.specs.Kleene as kleene
+use Rattle.values.specs.declared.Value.{Value}
+use Rattle.values.specs.declared.Value.the-variants as value
 
 -- what a column holds
 pub data Cell : Type 0 where

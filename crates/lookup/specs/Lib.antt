@@ -1,6 +1,4 @@
--- What the contracts of `lookup` say, as definitions: read Value and Cell, then Lookup for which clauses are lookups, then Answer for what is promised.
-pub mod Value
+-- What is promised of `lookup` and `value_at`: read Cell, then Answer. Which clauses are lookups is said in `columns`, what a value is in `values`.
 pub mod Cell
-pub mod Lookup
 pub mod Answer
-pub mod Gather
+pub mod Find

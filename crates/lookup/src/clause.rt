@@ -1,15 +1,14 @@
 // One clause of a predicate by its number, whatever the others are.
-use crate::counts::count_all;
 use crate::counts::count_at;
-use crate::gather::Gathered;
-use crate::gather::gather_at;
-use clauses::Part;
-use clauses::part_at;
+use columns::gather::Gathered;
+use columns::gather::gather_at;
+use normal::Part;
+use normal::part_at;
 ghost use mathlib.Core.Path.{_≡_};
 ghost use mathlib.Core.Bool.{false};
 ghost use Prim.Native.Nat.{_+_, _*_, _<_, _≤_};
 ghost use lib.ListN.{length};
-ghost use Rattle.lookup.specs.Gather.{Ready, turnOf, gatheredOf};
+ghost use Rattle.lookup.specs.Find.{Ready, turnOf, gatheredOf};
 
 // A row, and a clause of it.
 pub struct Turn {

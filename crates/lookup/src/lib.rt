@@ -4,18 +4,15 @@
 // the others: its literals are met one after the other, and what they test is gathered.
 // docs/FORMAT.md has the rules; specs/ has them as definitions.
 use clause::visit;
-use clauses::Size;
+use columns::gather::Gathered;
 use counts::count_all;
-use gather::Gathered;
+use normal::Size;
 use predicate::Checked;
 use tokens::refusal::Refusal;
-use value::Value;
+use values::Value;
 
 mod clause;
 mod counts;
-mod gather;
-mod test;
-pub mod value;
 
 ghost use mathlib.Core.Path.{_≡_};
 ghost use mathlib.Core.Bool.{false};
@@ -24,9 +21,9 @@ ghost use lib.ListN.{length};
 ghost use Rattle.tokens.specs.Limits.{rowsMax};
 ghost use Rattle.predicate.specs.Tree.{treeAt, Sound};
 ghost use Rattle.predicate.specs.Read.{readRows};
-ghost use Rattle.clauses.specs.Clause.{clausesMax, literalsMax, clauses as clausesOf, total};
+ghost use Rattle.normal.specs.Clause.{clausesMax, literalsMax, clauses as clausesOf, total};
 ghost use Rattle.lookup.specs.Answer.{asked as askedOf, askedIn, foundOf, LooksUp};
-ghost use Rattle.lookup.specs.Gather.{gatheredOf, answerOf, answered as answeredOf};
+ghost use Rattle.lookup.specs.Find.{gatheredOf, answerOf, answered as answeredOf};
 
 // What is asked of a clause: the column and how many values there are, or a refusal and its place.
 pub enum Looked {
@@ -88,7 +85,7 @@ fn asked_at(rows: &[u64], last: usize, clause: usize, n: usize) -> Answer
     requires { ⌜ Sound (now rows) last × (last < rowsMax) ⌝ }
     ensures { λ a. ⌜ a ≡ answerOf n (askedIn (clausesOf false (treeAt (now (rows .entry)) last)) clause) ⌝ }
 {
-    let s = clauses::count(rows, last, false);
+    let s = normal::count(rows, last, false);
     let Size::Is(c, _) = s else {
         return Answer::Refused(Refusal::TooMany, 0);
     };

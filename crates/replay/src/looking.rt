@@ -6,8 +6,8 @@ use crate::fields::field;
 use crate::fields::numbers;
 use lookup::Found;
 use lookup::Looked;
-use lookup::value::row_of;
 use tokens::refusal::Refusal;
+use values::row_of;
 
 const TEXT: usize = 1024;
 

@@ -11,10 +11,10 @@ use Rattle.grammar.specs.Tree.{rowsOf}
 use Rattle.grammar.specs.Rules as rules
 use Rattle.syntax.specs.Promise.{parsing}
 use Rattle.predicate.specs.Read.{Reading, one, refused, readRows}
-use Rattle.clauses.specs.Clause as clause
-use Rattle.lookup.specs.Value.{rowOf}
+use Rattle.normal.specs.Clause as clause
+use Rattle.values.specs.Value.{rowOf}
 use Rattle.lookup.specs.Answer.{Asked, holds, refuse, asked}
-use Rattle.lookup.specs.declared.value.Value.{Value}
+use Rattle.values.specs.declared.Value.{Value}
 
 -- tokens of one byte each, from place i of a text on
 unfoldable pub tokens : ℕ → List ℕ → List ℕ

@@ -4,8 +4,8 @@ use mathlib.Core.Path.{_≡_, refl}
 use mathlib.Core.Bool.{false}
 use native.Mathlib.Omega.{arith}
 use Rattle.predicate.specs.Tree.{treeAt}
-use Rattle.clauses.specs.Clause.{clauses}
-use Rattle.clauses.proofs.Writing.{room-of}
+use Rattle.normal.specs.Clause.{clauses}
+use Rattle.chains.proofs.Writing.{room-of}
 use borrow.Author.Needs.{needs}
 use Rattle.clauses.proofs.list.Statement.{statement}
 use Rattle.clauses.proofs.list.Tie as tie

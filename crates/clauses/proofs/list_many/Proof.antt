@@ -3,7 +3,7 @@
 use mathlib.Core.Bool.{false}
 use native.Mathlib.Omega.{arith}
 use Rattle.predicate.specs.Tree.{treeAt}
-use Rattle.clauses.specs.Clause.{clauses}
+use Rattle.normal.specs.Clause.{clauses}
 use Rattle.clauses.proofs.Answers.{sizes, gives-many, gives-short, gives-shorter, gives-all}
 use borrow.Author.Needs.{needs}
 use Rattle.clauses.proofs.list_many.Statement.{statement}

@@ -2,7 +2,7 @@
 -- Assumes nothing.
 use mathlib.Core.Path.{sym, ap, _∙_}
 use Prim.Native.Nat.{ℕ, _+_, _*_}
-use Rattle.clauses.specs.Clause.{bit}
+use Rattle.normal.specs.Clause.{bit}
 use Rattle.clauses.proofs.Answers.{one-short, one-shorter, one-all}
 use borrow.Author.Needs.{needs}
 use Rattle.clauses.proofs.list_one.Statement.{statement}

@@ -4,7 +4,7 @@ use mathlib.Core.Bool.{false}
 use native.Mathlib.Omega.{arith}
 use Rattle.predicate.proofs.Trees.{root-at}
 use Rattle.clauses.proofs.Answers.{listed-as}
-use Rattle.clauses.proofs.Rows.{part-is}
+use Rattle.normal.proofs.Rows.{part-is}
 use borrow.Author.Needs.{needs}
 use Rattle.clauses.proofs.list_tree.Statement.{statement}
 use Rattle.clauses.proofs.list_tree.Tie as tie

@@ -8,7 +8,7 @@ use Rattle.rows.specs.Layout.{count}
 use Rattle.predicate.specs.Tree.{Tree, treeAt, Sound}
 use Rattle.predicate.specs.Read.{readRows}
 use Rattle.predicate.proofs.Accepted.{accepted, checked-refused, checked-good}
-use Rattle.clauses.specs.Clause.{clauses}
+use Rattle.normal.specs.Clause.{clauses}
 use Rattle.clauses.specs.Split.{listOf, Gives}
 use Rattle.clauses.proofs.Answers.{promise-refused, promise-listed}
 use borrow.Author.Needs.{needs}

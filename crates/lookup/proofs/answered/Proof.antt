@@ -1,7 +1,7 @@
 -- `answered` meets its contract: by what was gathered.
 -- Assumes nothing.
 use mathlib.Core.Path.{sym, ap}
-use Rattle.lookup.specs.Gather.{answered}
+use Rattle.lookup.specs.Find.{answered}
 use borrow.Author.Needs.{needs}
 use Rattle.lookup.proofs.answered.Statement.{statement}
 use Rattle.lookup.proofs.answered.Tie as tie

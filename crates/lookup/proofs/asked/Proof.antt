@@ -2,7 +2,7 @@
 -- Assumes nothing.
 use mathlib.Core.Path.{ap, _∙_}
 use native.Mathlib.Omega.{arith}
-use Rattle.lookup.specs.Gather.{answerOf}
+use Rattle.lookup.specs.Find.{answerOf}
 use Rattle.lookup.proofs.Answering.{rooted, no-rows}
 use borrow.Author.Needs.{needs}
 use Rattle.lookup.proofs.asked.Statement.{statement}

@@ -4,8 +4,8 @@ use mathlib.Core.Path.{ap, _∙_}
 use mathlib.Core.Bool.{false}
 use native.Mathlib.Omega.{arith}
 use Rattle.predicate.specs.Tree.{treeAt}
-use Rattle.clauses.specs.Clause.{clauses}
-use Rattle.lookup.specs.Gather.{gatheredOf, answered}
+use Rattle.normal.specs.Clause.{clauses}
+use Rattle.lookup.specs.Find.{gatheredOf, answered}
 use Rattle.lookup.proofs.Answering.{asked-many, counts, asked-none, asked-one}
 use borrow.Author.Needs.{needs}
 use Rattle.lookup.proofs.asked_at.Statement.{statement}

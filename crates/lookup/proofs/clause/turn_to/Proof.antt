@@ -1,7 +1,7 @@
 -- `clause::turn_to` meets its contract: its test is that of `turnOf`.
 -- Assumes nothing.
 use borrow.Author.Tests.{lt-ltb, le-ltb}
-use Rattle.lookup.specs.Gather.{turnOf}
+use Rattle.lookup.specs.Find.{turnOf}
 use Rattle.lookup.proofs.clause.turn_to.Statement.{statement}
 use Rattle.lookup.proofs.clause.turn_to.Tie as tie
 

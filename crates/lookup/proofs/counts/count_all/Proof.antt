@@ -5,7 +5,7 @@ use Prim.Native.Nat.{_+_, _-_, _≤_}
 use native.Mathlib.Omega.{arith}
 use lib.ListN.{length, length-set}
 use Rattle.predicate.proofs.Trees.{sound-below}
-use Rattle.lookup.specs.Gather.{Counted}
+use Rattle.lookup.specs.Find.{Counted}
 use Rattle.lookup.proofs.Counting.{counted-none, counted-more, counted-all}
 use Rattle.lookup.proofs.counts.count_all.Statement.{statement}
 use Rattle.lookup.proofs.counts.count_all.Tie as tie

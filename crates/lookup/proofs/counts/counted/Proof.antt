@@ -3,7 +3,7 @@
 use mathlib.Core.Path.{_∙_}
 use mathlib.Core.Bool.{true, false}
 use native.Mathlib.Omega.{arith}
-use Rattle.lookup.proofs.Testing.{falls-both, falls-either, falls-not}
+use Rattle.columns.proofs.Testing.{falls-both, falls-either, falls-not}
 use Rattle.lookup.proofs.Counting.{read-plain, read-negated, small-count, counts-is, count-leaf, count-one, count-two, count-not, both-plain, both-negated, either-plain, either-negated}
 use borrow.Author.Needs.{needs}
 use Rattle.lookup.proofs.counts.counted.Statement.{statement}

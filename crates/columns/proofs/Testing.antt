@@ -1,0 +1,136 @@
+-- What an atom tests, by its row: the cases of `equalOf` and `isOf`, and `testOf` and `leafOf` of the tree at a row.
+-- Assumes nothing.
+use mathlib.Core.Path.{_≡_, refl, sym, ap, subst, _∙_}
+use Prim.Native.Nat.{ℕ, _<_}
+use mathlib.Core.Bool.{Bool, true, false, _&&_, and-false}
+use mathlib.Core.List.{List, map}
+use native.Mathlib.Omega.{arith}
+use borrow.Author.Tests.{eqb-true, eq-eqb, ne-eqb}
+use lib.Dec.{leb}
+use Rattle.rows.specs.Layout.{rowAt}
+use Rattle.rows.specs.declared.Row.{Row}
+use Rattle.predicate.specs.Kind as kind
+use Rattle.predicate.specs.Row.{shapeAt, arityOf, operandsOf}
+use Rattle.predicate.specs.Tree.{Tree, nodeOf, treeAt, Falls, Sound}
+use Rattle.predicate.specs.declared.Shape.{Shape}
+use Rattle.predicate.specs.declared.Shape.the-variants as shape
+use Rattle.predicate.proofs.Trees.{sound-below, tree-step}
+use Rattle.columns.specs.Lookup.{noRow, leafOf, isColumn, isConstant, equalOf, isOf, testOf}
+use Rattle.columns.specs.Gather.{isLeaf}
+use Rattle.columns.specs.declared.test.Test.{Test}
+use Rattle.columns.specs.declared.test.Test.the-variants.{Other, Equals}
+
+-- ---- rows
+
+-- a column is no constant
+column-only : (v : Row) → isColumn v ≡ true → isConstant v ≡ false
+unfolding isColumn isConstant
+column-only v e = ap (λ (k : ℕ). leb kind.null k && leb k kind.string) (eqb-true (v .kind) kind.column e)
+
+module _ (v w : Row) where
+  pub equal-left : isColumn v ≡ true → isConstant w ≡ true → Equals (v .x) w ≡ equalOf v w
+  unfolding equalOf
+  equal-left e f = rw (e, f, equalOf)
+
+  pub equal-left-none : isColumn v ≡ true → isConstant w ≡ false → Other ≡ equalOf v w
+  unfolding equalOf
+  equal-left-none e f = rw (e, f, column-only v e, and-false (isColumn w), equalOf)
+
+  pub equal-right : isColumn v ≡ false → isColumn w ≡ true → isConstant v ≡ true → Equals (w .x) v ≡ equalOf v w
+  unfolding equalOf
+  equal-right e f g = rw (e, f, g, equalOf)
+
+  pub equal-right-none : isColumn v ≡ false → isColumn w ≡ true → isConstant v ≡ false → Other ≡ equalOf v w
+  unfolding equalOf
+  equal-right-none e f g = rw (e, f, g, equalOf)
+
+  pub equal-none : isColumn v ≡ false → isColumn w ≡ false → Other ≡ equalOf v w
+  unfolding equalOf
+  equal-none e f = rw (e, f, equalOf)
+
+-- ---- trees
+
+module _ {l : List ℕ} {r : ℕ} (h : Sound l r) {s k : Shape} (e : s ≡ shapeAt l r) (f : s ≡ k) where
+  pub node-at : treeAt l r ≡ nodeOf k r (rowAt l r) (map (treeAt l) (operandsOf (arityOf k)))
+  node-at = tree-step h ∙ ap (λ (q : Shape). nodeOf q r (rowAt l r) (map (treeAt l) (operandsOf (arityOf q)))) (sym e ∙ f)
+
+  -- the operands of row r stand before it
+  pub falls-at : Falls (arityOf k) r
+  falls-at = subst (λ (q : Shape). Falls (arityOf q) r) (sym e ∙ f) (h .falls r (omega arith))
+
+-- operands stand before their row
+module _ {l : List ℕ} {r : ℕ} (h : Sound l r) {s : Shape} (e : s ≡ shapeAt l r) where
+  pub falls-both : {x y : ℕ} → s ≡ shape.Both x y → (x < r) × (y < r)
+  unfolding arityOf
+  falls-both f = falls-at h e f
+
+  pub falls-either : {x y : ℕ} → s ≡ shape.Either x y → (x < r) × (y < r)
+  unfolding arityOf
+  falls-either f = falls-at h e f
+
+  pub falls-not : {x : ℕ} → s ≡ shape.Not x → x < r
+  unfolding arityOf
+  falls-not f = falls-at h e f
+
+-- each operand's subtree is sound
+module _ {l : List ℕ} {r : ℕ} (h : Sound l r) {s : Shape} (e : s ≡ shapeAt l r) where
+  pub sound-operand-one : {x : ℕ} → s ≡ shape.One x → Sound l x
+  unfolding arityOf
+  sound-operand-one {x} f = let lt = falls-at h e f in sound-below x h (omega arith)
+
+  pub sound-left : {x y : ℕ} → s ≡ shape.Two x y → Sound l x
+  unfolding arityOf
+  sound-left {x} f = let lt = falls-at h e f in sound-below x h (omega (arith, lt .0))
+
+  pub sound-right : {x y : ℕ} → s ≡ shape.Two x y → Sound l y
+  unfolding arityOf
+  sound-right {x} {y} f = let lt = falls-at h e f in sound-below y h (omega (arith, lt .1))
+
+leaf-node : (s : Shape) (r : ℕ) (w : Row) (ts : List Tree) (b : Bool) → isLeaf s ≡ b → leafOf (nodeOf s r w ts) ≡ elim b [ true ↦ w | false ↦ noRow ]
+unfolding leafOf nodeOf isLeaf
+leaf-node shape.Leaf r w ts b e = ap (λ (c : Bool). elim c as (λ x. Row) [ true ↦ w | false ↦ noRow ]) e
+leaf-node (shape.One x) r w ts b e = ap (λ (c : Bool). elim c as (λ x. Row) [ true ↦ w | false ↦ noRow ]) e
+leaf-node (shape.Two x y) r w ts b e = ap (λ (c : Bool). elim c as (λ x. Row) [ true ↦ w | false ↦ noRow ]) e
+leaf-node (shape.Both x y) r w ts b e = ap (λ (c : Bool). elim c as (λ x. Row) [ true ↦ w | false ↦ noRow ]) e
+leaf-node (shape.Either x y) r w ts b e = ap (λ (c : Bool). elim c as (λ x. Row) [ true ↦ w | false ↦ noRow ]) e
+leaf-node (shape.Not x) r w ts b e = ap (λ (c : Bool). elim c as (λ x. Row) [ true ↦ w | false ↦ noRow ]) e
+
+module _ {l : List ℕ} {r : ℕ} (h : Sound l r) {s : Shape} (e : s ≡ shapeAt l r) where
+  pub leaf-on : isLeaf s ≡ true → rowAt l r ≡ leafOf (treeAt l r)
+  leaf-on f = sym (ap leafOf (node-at h e refl) ∙ leaf-node s r (rowAt l r) (map (treeAt l) (operandsOf (arityOf s))) true f)
+
+  pub leaf-off : isLeaf s ≡ false → noRow ≡ leafOf (treeAt l r)
+  leaf-off f = sym (ap leafOf (node-at h e refl) ∙ leaf-node s r (rowAt l r) (map (treeAt l) (operandsOf (arityOf s))) false f)
+
+module _ {l : List ℕ} {r : ℕ} (h : Sound l r) {s : Shape} (e : s ≡ shapeAt l r) where
+  pub test-is : {x : ℕ} → s ≡ shape.One x → rowAt l r .kind ≡ kind.is → isOf (leafOf (treeAt l x)) (rowAt l r .y) ≡ testOf (treeAt l r)
+  unfolding testOf nodeOf arityOf operandsOf
+  test-is f g = sym (ap testOf (node-at h e f) ∙ rw (eq-eqb (rowAt l r .kind) kind.is g, testOf))
+
+  pub test-unary : {x : ℕ} → s ≡ shape.One x → (rowAt l r .kind ≡ kind.is → ⊥) → Other ≡ testOf (treeAt l r)
+  unfolding testOf nodeOf arityOf operandsOf
+  test-unary f g = sym (ap testOf (node-at h e f) ∙ rw (ne-eqb (rowAt l r .kind) kind.is g, testOf))
+
+  pub test-equal : {x y : ℕ} → s ≡ shape.Two x y → rowAt l r .kind ≡ kind.equal → equalOf (leafOf (treeAt l x)) (leafOf (treeAt l y)) ≡ testOf (treeAt l r)
+  unfolding testOf nodeOf arityOf operandsOf
+  test-equal f g = sym (ap testOf (node-at h e f) ∙ rw (eq-eqb (rowAt l r .kind) kind.equal g, testOf))
+
+  pub test-binary : {x y : ℕ} → s ≡ shape.Two x y → (rowAt l r .kind ≡ kind.equal → ⊥) → Other ≡ testOf (treeAt l r)
+  unfolding testOf nodeOf arityOf operandsOf
+  test-binary f g = sym (ap testOf (node-at h e f) ∙ rw (ne-eqb (rowAt l r .kind) kind.equal g, testOf))
+
+  pub test-leaf : s ≡ shape.Leaf → Other ≡ testOf (treeAt l r)
+  unfolding testOf nodeOf
+  test-leaf f = sym (ap testOf (node-at h e f))
+
+  pub test-both : {x y : ℕ} → s ≡ shape.Both x y → Other ≡ testOf (treeAt l r)
+  unfolding testOf nodeOf
+  test-both f = sym (ap testOf (node-at h e f))
+
+  pub test-either : {x y : ℕ} → s ≡ shape.Either x y → Other ≡ testOf (treeAt l r)
+  unfolding testOf nodeOf
+  test-either f = sym (ap testOf (node-at h e f))
+
+  pub test-not : {x : ℕ} → s ≡ shape.Not x → Other ≡ testOf (treeAt l r)
+  unfolding testOf nodeOf
+  test-not f = sym (ap testOf (node-at h e f))

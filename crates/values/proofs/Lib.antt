@@ -1,0 +1,3 @@
+-- Laws of values and their patterns.
+pub mod Values
+pub mod Patterns

@@ -1,0 +1,2 @@
+-- The values of constants.
+pub mod Value
