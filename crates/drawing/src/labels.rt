@@ -5,7 +5,7 @@ use crate::out::bits;
 use crate::out::decimal;
 use crate::out::put;
 use crate::out::quoted;
-use grammar::kind;
+use operators::kind;
 use rows::Row;
 use tokens::table::spelled;
 use values::Value;

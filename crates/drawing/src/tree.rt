@@ -8,7 +8,7 @@ use crate::out::indent;
 use crate::out::place;
 use crate::out::put;
 use form::scan::one_more;
-use grammar::kind;
+use operators::kind;
 use rows::Row;
 ghost use mathlib.Core.Path.{_≡_};
 ghost use lib.ListN.{length};

@@ -18,11 +18,11 @@ use Rattle.tokens.specs.declared.refusal.Refusal.{Refusal}
 use Rattle.tokens.proofs.Tabled.{kind-in}
 use Rattle.rows.specs.Layout.{capacity}
 use Rattle.rows.specs.declared.Row.{Row}
-use Rattle.grammar.specs.Operator.{among, binds, infixOf, prefixOf, postfixOf, startOf}
+use Rattle.operators.specs.Operator.{among, binds, infixOf, prefixOf, postfixOf, startOf}
+use Rattle.operators.specs.declared.operator.Start.{Start}
+use Rattle.operators.specs.declared.operator.Start.the-variants as start
 use Rattle.grammar.specs.Rules.{needClose, needComma, needName, needNullOrNan}
 use Rattle.grammar.specs.Memory.{Out, done, refuse, Gives, then, past, put, while, fuel, Rec, missing, need, nullOrNan, postfix, postfixes, column, closed, numeral, group, argument, arguments, named, atom, operand, infixed, infixes, tail, level, expression}
-use Rattle.grammar.specs.declared.operator.Start.{Start}
-use Rattle.grammar.specs.declared.operator.Start.the-variants as start
 use Rattle.grammar.specs.declared.step.Cursor.{Cursor}
 use Rattle.grammar.specs.declared.step.Step.{Step}
 use Rattle.grammar.specs.declared.step.Step.the-variants.{Read}

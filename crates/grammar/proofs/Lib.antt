@@ -1,5 +1,4 @@
 -- Laws of the definitions, that the functions' proofs cite.
-pub mod Among
 pub mod Steps
 pub mod Going
 pub mod Openings

@@ -10,14 +10,14 @@ use lib.Dec.{eqb, leb}
 use Rattle.tokens.specs.Kind as kind
 use Rattle.tokens.specs.Token.{count, kindAt}
 use Rattle.tokens.specs.declared.refusal.Refusal.the-variants.{TooDeep}
-use Rattle.grammar.specs.Operator.{among, binds, prefixOf, startTable, startOf}
+use Rattle.operators.specs.Operator.{among, binds, prefixOf, startTable, startOf}
+use Rattle.operators.specs.declared.operator.Start.{Start}
+use Rattle.operators.specs.declared.operator.Start.the-variants as start
+use Rattle.operators.proofs.Among.{both}
 use Rattle.grammar.specs.Rules.{needClose}
 use Rattle.grammar.specs.Memory.{Out, done, refuse, then, past, over, Rec, need, opens, opened, minimum, closed, group, atom, operand, tail, level, expression, closings}
 use Rattle.grammar.specs.declared.opening.Openings.{Openings}
-use Rattle.grammar.specs.declared.operator.Start.{Start}
-use Rattle.grammar.specs.declared.operator.Start.the-variants as start
 use Rattle.grammar.specs.declared.step.Cursor.{Cursor}
-use Rattle.grammar.proofs.Among.{both}
 use Rattle.grammar.proofs.Steps.{one-less, prefix-on, prefix-off, atom-by}
 use Rattle.grammar.proofs.Going.{kind-is, prefix-in}
 

@@ -15,12 +15,12 @@ use Rattle.tokens.specs.declared.refusal.Refusal.{Refusal}
 use Rattle.tokens.specs.declared.refusal.Refusal.the-variants.{End, LeftOver, NoRoom}
 use Rattle.rows.specs.Layout.{width, numbers, capacity}
 use Rattle.rows.specs.declared.Row.{Row}
-use Rattle.grammar.specs.Kind as row
-use Rattle.grammar.specs.Operator.{binds, prefixOf, startOf}
+use Rattle.operators.specs.Kind as row
+use Rattle.operators.specs.Operator.{binds, prefixOf, startOf}
+use Rattle.operators.specs.declared.operator.Start.{Start}
 use Rattle.grammar.specs.Tree.{rowOf}
 use Rattle.grammar.specs.Rules.{needComma, needName, needNullOrNan}
 use Rattle.grammar.specs.Memory.{Out, done, refuse, Gives, then, past, put, leaf, over, while, fuel, Rec, missing, need, nullOrNan, postfix, column, argument, arguments, named, atom, operand, finish}
-use Rattle.grammar.specs.declared.operator.Start.{Start}
 use Rattle.grammar.specs.declared.step.Cursor.{Cursor}
 use Rattle.grammar.specs.declared.step.Step.{Step}
 use Rattle.grammar.specs.declared.step.Step.the-variants.{Read, Refused}

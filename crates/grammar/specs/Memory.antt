@@ -1,11 +1,10 @@
 -- The reading rules with the row table passed along: what the inner functions promise. Rule by rule the text is that of Rules, with a row
 -- written where that builds a tree; and beside them `opened` and `closings`, by which a run of openings is read in a loop, and
--- `Ends` and `Stands`, by which an operand is seen to be one token. No entry's promise
--- names this file.
+-- `Stands`, by which an operand is seen to be one token. No entry's promise names this file.
 use mathlib.Core.Path.{_≡_}
 use Prim.Native.Nat.{ℕ, zero, suc, _+_, _-_, _*_}
 use mathlib.Core.List.{List}
-use mathlib.Core.Bool.{Bool, true, false, _&&_}
+use mathlib.Core.Bool.{Bool, true, false}
 use lib.Dec.{eqb, ltb, leb}
 use lib.Seq.{sets}
 use Rattle.tokens.specs.Kind as kind
@@ -17,15 +16,15 @@ use Rattle.tokens.specs.declared.refusal.Refusal.{Refusal}
 use Rattle.tokens.specs.declared.refusal.Refusal.the-variants.{End, NoAtom, LeftOver, BadNumber, TooDeep, NoRoom}
 use Rattle.rows.specs.Layout.{width, numbers, capacity}
 use Rattle.rows.specs.declared.Row.{Row}
-use Rattle.grammar.specs.Kind as row
-use Rattle.grammar.specs.Operator.{infixOf, rightOf, prefixOf, postfixOf, binds, startOf}
+use Rattle.operators.specs.Kind as row
+use Rattle.operators.specs.Operator.{infixOf, rightOf, prefixOf, postfixOf, binds, startOf}
+use Rattle.operators.specs.declared.operator.Start.{Start}
+use Rattle.operators.specs.declared.operator.Start.the-variants as start
 use Rattle.grammar.specs.Tree.{rowOf}
 use Rattle.grammar.specs.Rules.{needClose, needComma, needName, needNullOrNan}
 use Rattle.grammar.specs.declared.leaf.Single.{Single}
 use Rattle.grammar.specs.declared.leaf.Single.the-variants as single
 use Rattle.grammar.specs.declared.opening.Openings.{Openings}
-use Rattle.grammar.specs.declared.operator.Start.{Start}
-use Rattle.grammar.specs.declared.operator.Start.the-variants as start
 use Rattle.grammar.specs.declared.step.Cursor.{Cursor}
 use Rattle.grammar.specs.declared.step.Step.{Step}
 use Rattle.grammar.specs.declared.step.Step.the-variants.{Read, Refused}
@@ -86,18 +85,6 @@ fuel ts = suc (count ts)
 -- a token of kind k opens a level at the minimum m: a parenthesis, or a prefix operator
 unfoldable pub opens : ℕ → ℕ → Bool
 opens k m = elim (eqb k kind.openParen) [ true ↦ true | false ↦ binds (prefixOf k .precedence) m ]
-
--- k lies among the operators that may follow an operand: the infix ones, and after them the postfix ones
-unfoldable pub operates : ℕ → Bool
-operates k = leb kind.OR k && leb k kind.IS
-
--- an operand of one token ends before a token of kind k, at the minimum m: no operator of at least m follows it, and it is no call and no
--- qualified name
-pub record Ends (k m : ℕ) : Type 0 where
-  pub noInfix : binds (infixOf k .precedence) m ≡ false
-  pub noPostfix : binds (postfixOf k) m ≡ false
-  pub paren : k ≡ kind.openParen → ⊥
-  pub period : k ≡ kind.period → ⊥
 
 abbrev pub Rec : Type 0
 Rec = ℕ → Cursor → List ℕ → Out

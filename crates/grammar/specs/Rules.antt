@@ -10,11 +10,11 @@ use Rattle.numbers.specs.declared.Number.{Number}
 use Rattle.numbers.specs.declared.Number.the-variants.{Integer, Float, Neither}
 use Rattle.tokens.specs.declared.refusal.Refusal.{Refusal}
 use Rattle.tokens.specs.declared.refusal.Refusal.the-variants.{End, NoAtom, WrongToken, LeftOver, BadNumber, TooDeep, NoRoom}
-use Rattle.grammar.specs.Kind as row
-use Rattle.grammar.specs.Operator.{infixOf, rightOf, prefixOf, postfixOf, binds, startOf}
+use Rattle.operators.specs.Kind as row
+use Rattle.operators.specs.Operator.{infixOf, rightOf, prefixOf, postfixOf, binds, startOf}
+use Rattle.operators.specs.declared.operator.Start.{Start}
+use Rattle.operators.specs.declared.operator.Start.the-variants as start
 use Rattle.grammar.specs.Tree.{Tree, leaf, unary, binary, call, Trees, none, more}
-use Rattle.grammar.specs.declared.operator.Start.{Start}
-use Rattle.grammar.specs.declared.operator.Start.the-variants as start
 
 -- how many levels a reading may have
 abbrev pub levelMax : ℕ

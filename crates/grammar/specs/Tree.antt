@@ -3,7 +3,7 @@ use Prim.Native.Nat.{ℕ, _+_, _-_}
 use mathlib.Core.List.{List, [], _++_}
 use Rattle.rows.specs.Layout.{numbers}
 use Rattle.rows.specs.declared.Row.{Row}
-use Rattle.grammar.specs.Kind as row
+use Rattle.operators.specs.Kind as row
 
 mutual
   pub data Tree : Type 0 where

@@ -1,12 +1,12 @@
 // The leaves that take a look: numbers, by their bytes, and columns, by the token after the name.
-use crate::kind as row;
-use crate::operator;
 use crate::step::Cursor;
 use crate::step::Step;
 use crate::step::leaf;
 use crate::step::need;
 use crate::step::put;
 use numbers::Number;
+use operators::kind as row;
+use operators::operator;
 use rows::Row;
 use tokens::kind;
 use tokens::refusal::Refusal;

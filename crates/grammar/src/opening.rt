@@ -1,9 +1,9 @@
 // Openings: the parentheses and prefix operators before an atom. Each opens a level and sets the minimum there.
-use crate::operator;
 use crate::step::Cursor;
 use crate::step::Step;
 use crate::step::need;
 use crate::step::over;
+use operators::operator;
 use tokens::kind;
 use tokens::refusal::Refusal;
 use tokens::table::kind_at;

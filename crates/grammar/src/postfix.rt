@@ -1,17 +1,17 @@
 // Postfix operators.
-use crate::kind as row;
 use crate::step::Cursor;
 use crate::step::Step;
 use crate::step::again;
 use crate::step::need;
 use crate::step::over;
+use operators::kind as row;
 use tokens::kind;
 use tokens::refusal::Refusal;
 use tokens::table::kind_at;
 ghost use mathlib.Core.Path.{_≡_};
 ghost use Prim.Native.Nat.{_≤_, _<_};
 ghost use Rattle.tokens.specs.Token.{count, kindAt};
-ghost use Rattle.grammar.specs.Operator.{postfixOf, binds};
+ghost use Rattle.operators.specs.Operator.{postfixOf, binds};
 ghost use Rattle.grammar.specs.Memory.{Gives, nullOrNan as nullOrNanOf, postfix as postfixOn, postfixes as postfixesOf};
 
 // NULL or NAN, after IS.

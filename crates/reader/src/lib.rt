@@ -8,7 +8,6 @@
 //
 // A call that stays a call in the compiled code is lent `&*text` and `&*tokens`: so the compiler keeps a slice's two halves apart, and reads take half
 // the time.
-use grammar::kind as row;
 use grammar::leaf::Single;
 use grammar::leaf::alone;
 use grammar::leaf::column;
@@ -16,8 +15,6 @@ use grammar::leaf::numeral;
 use grammar::opening::closed;
 use grammar::opening::minimum;
 use grammar::opening::opened;
-use grammar::operator;
-use grammar::operator::Start;
 use grammar::postfix::any_postfixes;
 use grammar::postfix::postfix_at;
 use grammar::postfix::postfixes;
@@ -27,6 +24,9 @@ use grammar::step::again;
 use grammar::step::leaf;
 use grammar::step::need;
 use grammar::step::put;
+use operators::kind as row;
+use operators::operator;
+use operators::operator::Start;
 use rows::Row;
 use tokens::kind;
 use tokens::refusal::Refusal;
@@ -35,7 +35,7 @@ ghost use mathlib.Core.Path.{_≡_};
 ghost use Prim.Native.Nat.{_≤_, _<_, _+_, _-_, _^_};
 ghost use Rattle.tokens.specs.Kind.{openParen};
 ghost use Rattle.tokens.specs.Token.{count, kindAt};
-ghost use Rattle.grammar.specs.Operator.{infixOf, binds, startOf};
+ghost use Rattle.operators.specs.Operator.{infixOf, binds, startOf};
 ghost use Rattle.grammar.specs.Memory.{Gives, expression as expressionOf, tail as tailOf, closings as closingsOf, atom as atomOf, named as namedOf, arguments as argumentsOf, argument as argumentOf, infixes as infixesOf, infixed as infixedOf, fuel};
 
 // An expression at the minimum `min`: past its openings, each a level, comes an atom; then what was opened goes on and is closed.

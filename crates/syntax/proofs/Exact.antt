@@ -11,12 +11,12 @@ use Rattle.tokens.specs.Token.{count, kindAt, spelled}
 use Rattle.numbers.specs.Number.{numberOf}
 use Rattle.numbers.specs.declared.Number.{Number}
 use Rattle.numbers.specs.declared.Number.the-variants.{Integer, Float, Neither}
-use Rattle.grammar.specs.Kind as row
-use Rattle.grammar.specs.Operator.{binds, infixOf, rightOf, prefixOf, startOf}
+use Rattle.operators.specs.Kind as row
+use Rattle.operators.specs.Operator.{binds, infixOf, rightOf, prefixOf, startOf}
+use Rattle.operators.specs.declared.operator.Start.{Start}
+use Rattle.operators.specs.declared.operator.Start.the-variants as start
 use Rattle.grammar.specs.Tree.{Tree, leaf, unary, binary, call, Trees, none, more, size, sizes}
 use Rattle.grammar.specs.Rules.{Reading, done, Reader, while, due, nullOrNan, postfix, postfixes, numeral, column, group, argument, arguments, named, atom, operand, infixed, infixes, level, expression, finish, whole, needClose, needComma, needName, needNullOrNan}
-use Rattle.grammar.specs.declared.operator.Start.{Start}
-use Rattle.grammar.specs.declared.operator.Start.the-variants as start
 use Rattle.syntax.proofs.Onward.{Holds, gone, after, either, need-holds}
 
 -- n rows were due before the tree x

@@ -13,7 +13,7 @@ use Rattle.tokens.specs.Kind as kind
 use Rattle.tokens.specs.Token.{count, kindAt}
 use Rattle.tokens.proofs.Tabled.{kind-missing}
 use Rattle.tokens.specs.declared.refusal.Refusal.the-variants.{End}
-use Rattle.grammar.specs.Operator.{among, binds, infixOf, prefixOf, postfixOf, startOf}
+use Rattle.operators.specs.Operator.{among, binds, infixOf, prefixOf, postfixOf, startOf}
 use Rattle.grammar.specs.Tree.{Tree, unary, call, Trees, none, more}
 use Rattle.grammar.specs.Rules.{Reading, done, refuse, _>>=_, Reader, while, due, need, postfix, postfixes, argument, arguments, atom, operand, infixed, infixes, level, expression, needComma}
 use Rattle.grammar.proofs.Going.{infix-in, postfix-in}

@@ -16,17 +16,17 @@ use Rattle.numbers.specs.declared.Number.the-variants.{Integer, Float, Neither}
 use Rattle.tokens.specs.declared.table.Checked.{Checked}
 use Rattle.tokens.specs.declared.table.Checked.the-variants as table
 use Rattle.rows.specs.Layout.{width, capacity}
-use Rattle.grammar.specs.Kind as row
-use Rattle.grammar.specs.Operator.{Operator, no, infixTable, infixOf, rightOf, prefixTable, prefixOf, binds, startTable, startOf}
+use Rattle.operators.specs.Kind as row
+use Rattle.operators.specs.Operator.{Operator, no, infixTable, infixOf, rightOf, prefixTable, prefixOf, binds, startTable, startOf}
+use Rattle.operators.specs.declared.operator.Start.{Start}
+use Rattle.operators.specs.declared.operator.Start.the-variants as start
+use Rattle.operators.proofs.Among.{both, every, among-every}
 use Rattle.grammar.specs.Tree.{Tree, leaf, unary, binary, call, Trees, none, more, size, rowsOf}
 use Rattle.grammar.specs.Rules.{Reading, done, refuse, Reader, while, due, nullOrNan, postfix, postfixes, numeral, column, group, argument, arguments, named, atom, operand, infixed, infixes, level, expression, finish, whole, needClose, needComma, needName, needNullOrNan}
 use Rattle.syntax.specs.Promise.{after, parsing, Says, Parses}
 use Rattle.syntax.specs.Whole.{Arity, nullary, one, two, arityOf, Whole}
 use Rattle.syntax.specs.Whole as W
 use Rattle.syntax.specs.declared.Parsed.the-variants.{Rows, Refused}
-use Rattle.grammar.specs.declared.operator.Start.{Start}
-use Rattle.grammar.specs.declared.operator.Start.the-variants as start
-use Rattle.grammar.proofs.Among.{both, every, among-every}
 use Rattle.syntax.proofs.Onward.{Holds, gone, either, need-holds}
 use Rattle.syntax.proofs.Onward as O
 use Rattle.syntax.proofs.Standing.{Kinded, AllKinded, rows-whole}

@@ -21,13 +21,13 @@ use Rattle.numbers.specs.declared.Number.{Number}
 use Rattle.numbers.specs.declared.Number.the-variants.{Integer, Float, Neither}
 use Rattle.tokens.specs.declared.refusal.Refusal.{Refusal}
 use Rattle.tokens.specs.declared.refusal.Refusal.the-variants.{NoRoom}
-use Rattle.grammar.specs.Kind as row
-use Rattle.grammar.specs.Operator.{binds, infixOf, rightOf, prefixOf, startOf}
+use Rattle.operators.specs.Kind as row
+use Rattle.operators.specs.Operator.{binds, infixOf, rightOf, prefixOf, startOf}
+use Rattle.operators.specs.declared.operator.Start.{Start}
+use Rattle.operators.specs.declared.operator.Start.the-variants as start
 use Rattle.grammar.specs.Tree.{Tree, unary, binary, call, Trees, none, more, size}
 use Rattle.grammar.specs.Rules.{Reading, done, refuse, _>>=_, Reader, needClose, needComma, needName, needNullOrNan}
 use Rattle.grammar.specs.Rules as T
-use Rattle.grammar.specs.declared.operator.Start.{Start}
-use Rattle.grammar.specs.declared.operator.Start.the-variants as start
 use Rattle.syntax.proofs.Onward.{by-cases, Holds, gone, need-holds, Onward, less, while-onward, postfix-onward, postfixes-onward, arguments-onward, infixed-onward, infixes-onward, expression-onward}
 use Rattle.syntax.proofs.Onward as O
 use Rattle.syntax.proofs.Exact.{Exact, whole-exact}

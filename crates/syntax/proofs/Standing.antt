@@ -14,7 +14,7 @@ use Rattle.rows.specs.Layout.{width, numbers, rowAt}
 use Rattle.rows.specs.Whole.{Subtree, at, any, Operands, found, ends, before, directlyBefore, Next, bad, on, push}
 use Rattle.rows.specs.declared.Row.{Row}
 use Rattle.rows.proofs.Laws.{same-row}
-use Rattle.grammar.specs.Kind as row
+use Rattle.operators.specs.Kind as row
 use Rattle.grammar.specs.Tree.{Tree, leaf, unary, binary, call, Trees, none, more, size, sizes, many, root, rowOf, rowsOf, rowsAll}
 use Rattle.syntax.specs.Whole.{Arity, nullary, one, two, named, arityOf, operandsBy, gather, overOne, overTwo, nodeBy, stepAt, andThen, readFrom, Whole}
 use Rattle.syntax.proofs.Laid.{length-rows, length-all}

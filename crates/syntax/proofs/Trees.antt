@@ -19,15 +19,15 @@ use Rattle.tokens.specs.declared.refusal.Refusal.{Refusal}
 use Rattle.tokens.specs.declared.refusal.Refusal.the-variants.{End}
 use Rattle.rows.specs.Layout.{width}
 use Rattle.rows.proofs.Laws.{follows}
-use Rattle.grammar.specs.Kind as row
-use Rattle.grammar.specs.Operator.{binds, infixOf, rightOf, prefixOf, startOf}
+use Rattle.operators.specs.Kind as row
+use Rattle.operators.specs.Operator.{binds, infixOf, rightOf, prefixOf, startOf}
+use Rattle.operators.specs.declared.operator.Start.{Start}
+use Rattle.operators.specs.declared.operator.Start.the-variants as start
 use Rattle.grammar.specs.Tree.{Tree, leaf, unary, binary, call, Trees, none, more, size, sizes, many, root, rowOf, rowsOf, rowsAll}
 use Rattle.grammar.specs.Rules.{Reading, Reader, needClose, needComma, needName, needNullOrNan}
 use Rattle.grammar.specs.Rules as T
 use Rattle.grammar.specs.Memory.{Out, done, refuse, then, past, put, over, fuel, Rec}
 use Rattle.grammar.specs.Memory as M
-use Rattle.grammar.specs.declared.operator.Start.{Start}
-use Rattle.grammar.specs.declared.operator.Start.the-variants as start
 use Rattle.grammar.specs.declared.step.Cursor.{Cursor}
 use Rattle.syntax.proofs.Laid.{length-rows, length-all, cursor, Room, still, Laid, Goes, gone, stays, either, after, put-laid}
 

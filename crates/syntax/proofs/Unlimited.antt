@@ -19,11 +19,11 @@ use Rattle.numbers.specs.declared.Number.the-variants.{Integer, Float, Neither}
 use Rattle.tokens.specs.declared.refusal.Refusal.{Refusal}
 use Rattle.tokens.specs.declared.refusal.Refusal.the-variants.{NoRoom}
 use Rattle.tokens.proofs.Tabled.{kind-in}
-use Rattle.grammar.specs.Operator.{among, binds, rightOf, prefixOf, startOf}
+use Rattle.operators.specs.Operator.{among, binds, rightOf, prefixOf, startOf}
+use Rattle.operators.specs.declared.operator.Start.{Start}
+use Rattle.operators.specs.declared.operator.Start.the-variants as start
 use Rattle.grammar.specs.Tree.{Tree, Trees, none, more, size}
 use Rattle.grammar.specs.Rules.{Reading, done, refuse, _>>=_, Reader, while, due, missing, need, nullOrNan, postfix, postfixes, numeral, column, group, argument, arguments, named, atom, operand, infixed, infixes, level, expression, finish, whole, free, needClose, needComma, needName, needNullOrNan}
-use Rattle.grammar.specs.declared.operator.Start.{Start}
-use Rattle.grammar.specs.declared.operator.Start.the-variants as start
 use Rattle.grammar.proofs.Going.{kind-is, prefix-in, infix-in}
 use Rattle.syntax.proofs.Onward.{by-cases}
 use Rattle.syntax.proofs.Room.{Limited, same, short, room, same-done, accepted-fits, accepted-larger}

@@ -9,7 +9,7 @@ use lib.Dec.{eqb, ltb, leb}
 use Rattle.rows.specs.Layout.{rowAt}
 use Rattle.rows.specs.Whole.{Subtree, Operand, at, any, directlyBefore, Next, bad, on, push}
 use Rattle.rows.specs.declared.Row.{Row}
-use Rattle.grammar.specs.Kind as row
+use Rattle.operators.specs.Kind as row
 use Rattle.grammar.specs.Tree.{Tree, leaf, unary, binary, call, Trees, none, more}
 
 -- how many operands a kind has: a leaf none, a function as many as y says

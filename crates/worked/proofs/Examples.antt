@@ -6,8 +6,8 @@ use mathlib.Core.List.{List, map}
 use Rattle.worked.specs.Table.{cases}
 use Rattle.worked.specs.Said as said
 use Rattle.syntax.specs.Promise as promise
+use Rattle.operators.specs.Operator as operator
 use Rattle.grammar.specs.Rules as rules
-use Rattle.grammar.specs.Operator as operator
 use Rattle.grammar.specs.Tree as syntax
 use Rattle.tokens.specs.Token as token
 use Rattle.numbers.specs.Number as number

@@ -38,10 +38,6 @@ use Rattle.grammar.proofs.leaf.numeral.Reads as numeral-reads
 use Rattle.grammar.proofs.opening.closed.Reads as closed-reads
 use Rattle.grammar.proofs.opening.minimum.Reads as minimum-reads
 use Rattle.grammar.proofs.opening.opened.Reads as opened-reads
-use Rattle.grammar.proofs.operator.operates.Reads as operates-reads
-use Rattle.grammar.proofs.operator.right_of.Reads as right-of-reads
-use Rattle.grammar.proofs.operator.row_of.Reads as row-of-reads
-use Rattle.grammar.proofs.operator.start_of.Reads as start-of-reads
 use Rattle.grammar.proofs.postfix.any_postfixes.Reads as any-postfixes-reads
 use Rattle.grammar.proofs.postfix.postfix_at.Reads as postfix-at-reads
 use Rattle.grammar.proofs.postfix.postfixes.Reads as postfixes-reads
@@ -49,6 +45,10 @@ use Rattle.grammar.proofs.step.again.Reads as again-reads
 use Rattle.grammar.proofs.step.leaf.Reads as leaf-reads
 use Rattle.grammar.proofs.step.need.Reads as need-reads
 use Rattle.grammar.proofs.step.put.Reads as put-reads
+use Rattle.operators.proofs.operator.operates.Reads as operates-reads
+use Rattle.operators.proofs.operator.right_of.Reads as right-of-reads
+use Rattle.operators.proofs.operator.row_of.Reads as row-of-reads
+use Rattle.operators.proofs.operator.start_of.Reads as start-of-reads
 use Rattle.reader.proofs.infix_at.Reads as infix-at-reads
 use Rattle.tokens.proofs.table.kind_at.Reads as kind-at-reads
 use Rattle.reader.proofs.+argument+arguments+atom+closings+expression+infixed+infixes+named+right+tail.Lts-argument as argument-lts

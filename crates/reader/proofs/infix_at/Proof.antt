@@ -2,7 +2,7 @@
 -- Assumes nothing.
 use mathlib.Core.Path.{ap, _∙_}
 use Prim.Native.Nat.{ℕ}
-use Rattle.grammar.specs.Operator.{infixOf, binds}
+use Rattle.operators.specs.Operator.{infixOf, binds}
 use borrow.Author.Needs.{needs}
 use Rattle.reader.proofs.infix_at.Statement.{statement}
 use Rattle.reader.proofs.infix_at.Tie as tie

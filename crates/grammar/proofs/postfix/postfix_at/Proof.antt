@@ -2,9 +2,9 @@
 -- Assumes nothing.
 use mathlib.Core.Path.{sym, ap, _∙_}
 use Prim.Native.Nat.{ℕ}
-use Rattle.grammar.specs.Operator.{among, postfixTable, postfixOf, binds}
-use Rattle.grammar.proofs.Among.{not-among}
 use borrow.Author.Needs.{needs}
+use Rattle.operators.specs.Operator.{among, postfixTable, postfixOf, binds}
+use Rattle.operators.proofs.Among.{not-among}
 use Rattle.grammar.proofs.postfix.postfix_at.Statement.{statement}
 use Rattle.grammar.proofs.postfix.postfix_at.Tie as tie
 

@@ -8,7 +8,7 @@ use borrow.Author.Tests.{not-true, not-false}
 use mathlib.Core.Bool.{true}
 use Prim.Native.Nat.{ℕ, _+_, _-_, _<_}
 use Rattle.tokens.specs.Token.{count, kindAt}
-use Rattle.grammar.specs.Operator.{binds, postfixOf}
+use Rattle.operators.specs.Operator.{binds, postfixOf}
 use Rattle.grammar.specs.Memory.{while, postfix, postfixes}
 use Rattle.grammar.proofs.Steps.{on, refused, stays, Moves, Turning, begins, turns, while-on, while-off}
 use Rattle.grammar.proofs.Going.{came, postfix-in, postfix-goes, postfix-some}

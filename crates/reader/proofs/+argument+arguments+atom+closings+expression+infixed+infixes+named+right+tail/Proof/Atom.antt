@@ -1,6 +1,6 @@
 -- `reader::atom` meets its contract: by what the token starts.
 -- Assumes nothing.
-use Rattle.grammar.specs.Operator.{startOf}
+use Rattle.operators.specs.Operator.{startOf}
 use Rattle.grammar.specs.Memory as M
 use Rattle.grammar.proofs.Steps.{same-as, ends, atom-by}
 use Rattle.grammar.proofs.Going.{start-in}
@@ -13,8 +13,8 @@ use Rattle.reader.proofs.+argument+arguments+atom+closings+expression+i
 use Rattle.reader.proofs.atom.Reads as atom
 use Rattle.reader.proofs.named.Reads as named
 use Rattle.grammar.proofs.leaf.numeral.Reads as numeral-reads
-use Rattle.grammar.proofs.operator.start_of.Reads as start-of-reads
 use Rattle.grammar.proofs.step.leaf.Reads as leaf-reads
+use Rattle.operators.proofs.operator.start_of.Reads as start-of-reads
 use Rattle.tokens.proofs.table.kind_at.Reads as kind-at-reads
 use Rattle.reader.proofs.+argument+arguments+atom+closings+expression+infixed+infixes+named+right+tail.Lts-atom as atom-lts
 

@@ -1,7 +1,7 @@
 -- `reader::infixed` meets its contract: by what it calls.
 -- Assumes nothing.
 use Rattle.tokens.specs.Token.{kindAt}
-use Rattle.grammar.specs.Operator.{infixOf, rightOf}
+use Rattle.operators.specs.Operator.{infixOf, rightOf}
 use Rattle.grammar.specs.Tree.{rowOf}
 use Rattle.grammar.specs.Memory as M
 use Rattle.grammar.specs.Memory.{Gives}
@@ -14,9 +14,9 @@ use Prim.Native.Nat.{ℕ, _-_}
 use Rattle.reader.proofs.+argument+arguments+atom+closings+expression+infixed+infixes+named+right+tail.Proof.Measures.{infixed-at, right-below}
 use Rattle.reader.proofs.infixed.Reads as infixed
 use Rattle.reader.proofs.right.Reads as right
-use Rattle.grammar.proofs.operator.right_of.Reads as right-of-reads
-use Rattle.grammar.proofs.operator.row_of.Reads as row-of-reads
 use Rattle.grammar.proofs.step.put.Reads as put-reads
+use Rattle.operators.proofs.operator.right_of.Reads as right-of-reads
+use Rattle.operators.proofs.operator.row_of.Reads as row-of-reads
 use Rattle.tokens.proofs.table.kind_at.Reads as kind-at-reads
 use Rattle.reader.proofs.+argument+arguments+atom+closings+expression+infixed+infixes+named+right+tail.Lts-infixed as infixed-lts
 

@@ -4,7 +4,7 @@
 use borrow.Author.Tests.{not-true, not-false}
 use mathlib.Core.Bool.{true}
 use Rattle.tokens.specs.Token.{count, kindAt}
-use Rattle.grammar.specs.Operator.{binds, infixOf}
+use Rattle.operators.specs.Operator.{binds, infixOf}
 use Rattle.grammar.specs.Memory as M
 use Rattle.grammar.proofs.Steps.{on, refused, stays, Moves, Turning, begins, turns, while-on, while-off}
 use Rattle.grammar.proofs.Going.{came, infix-in, infixed-goes, infixed-some, expression-goes, expression-some}

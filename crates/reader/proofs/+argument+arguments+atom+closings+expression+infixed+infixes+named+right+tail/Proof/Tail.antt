@@ -2,11 +2,12 @@
 -- Assumes nothing.
 use borrow.Author.Tests.{not-true}
 use Rattle.tokens.specs.Token.{count}
+use Rattle.operators.specs.Operator.{operates}
+use Rattle.operators.proofs.Ends.{operates-not}
 use Rattle.grammar.specs.Memory as M
-use Rattle.grammar.specs.Memory.{operates}
 use Rattle.grammar.proofs.Steps.{on, same-as, refused, alike, stays, while-off}
 use Rattle.grammar.proofs.Going.{came, postfixes-goes, postfixes-some, infixes-goes, infixes-some, expression-goes, expression-some}
-use Rattle.grammar.proofs.Alone.{operates-not, tail-off}
+use Rattle.grammar.proofs.Alone.{tail-off}
 use borrow.Author.Needs.{needs}
 use native.Mathlib.Omega.{arith}
 use mathlib.Core.Path.{refl, sym, ap, _∙_}
@@ -14,11 +15,11 @@ use Prim.Native.Nat.{ℕ, _<_, _≤_}
 use Rattle.reader.proofs.+argument+arguments+atom+closings+expression+infixed+infixes+named+right+tail.Proof.Measures.{infixes-below, tail-at}
 use Rattle.reader.proofs.infixes.Reads as infixes
 use Rattle.reader.proofs.tail.Reads as tail
-use Rattle.grammar.proofs.operator.operates.Reads as operates-reads
 use Rattle.grammar.proofs.postfix.any_postfixes.Reads as any-postfixes-reads
 use Rattle.grammar.proofs.postfix.postfix_at.Reads as postfix-at-reads
 use Rattle.grammar.proofs.postfix.postfixes.Reads as postfixes-reads
 use Rattle.grammar.proofs.step.again.Reads as again-reads
+use Rattle.operators.proofs.operator.operates.Reads as operates-reads
 use Rattle.tokens.proofs.table.kind_at.Reads as kind-at-reads
 use Rattle.reader.proofs.+argument+arguments+atom+closings+expression+infixed+infixes+named+right+tail.Lts-tail as tail-lts
 

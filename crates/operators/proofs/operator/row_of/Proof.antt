@@ -2,10 +2,10 @@
 -- Assumes nothing.
 use mathlib.Core.Path.{sym, ap}
 use Prim.Native.Nat.{ℕ}
-use Rattle.grammar.specs.Operator.{among, Operator, no, infixTable, infixOf}
-use Rattle.grammar.proofs.Among.{not-among}
-use Rattle.grammar.proofs.operator.row_of.Statement.{statement}
-use Rattle.grammar.proofs.operator.row_of.Tie as tie
+use Rattle.operators.specs.Operator.{among, Operator, no, infixTable, infixOf}
+use Rattle.operators.proofs.Among.{not-among}
+use Rattle.operators.proofs.operator.row_of.Statement.{statement}
+use Rattle.operators.proofs.operator.row_of.Tie as tie
 
 returns : tie.Need-returns
 unfolding infixOf among

@@ -3,8 +3,7 @@ use crate::kind as row;
 use tokens::kind;
 ghost use mathlib.Core.Path.{_≡_};
 ghost use mathlib.Core.Bool.{true};
-ghost use Rattle.grammar.specs.Operator.{infixOf, rightOf, prefixOf, binds as bindsOf, startOf};
-ghost use Rattle.grammar.specs.Memory.{operates as operatesOf, Ends};
+ghost use Rattle.operators.specs.Operator.{infixOf, rightOf, prefixOf, binds as bindsOf, startOf, operates as operatesOf, Ends};
 
 // What an atom starts with. Plain is a whole atom: its row's kind, and x.
 pub enum Start {
@@ -21,40 +20,24 @@ pub enum Start {
 pub fn precedence_of(k: u32) -> u32
     ensures { λ r. ⌜ r ≡ infixOf k .precedence ⌝ }
 {
-    if k == kind::OR {
-        1
-    } else if k == kind::AND {
-        2
-    } else if k == kind::EQUAL {
-        4
-    } else if k == kind::NOT_EQUAL {
-        4
-    } else if k == kind::LESS_OR_GREATER_THAN {
-        4
-    } else if k == kind::LIKE {
-        4
-    } else if k == kind::GREATER_THAN {
-        5
-    } else if k == kind::GREATER_THAN_OR_EQUAL {
-        5
-    } else if k == kind::LESS_THAN {
-        5
-    } else if k == kind::LESS_THAN_OR_EQUAL {
-        5
-    } else if k == kind::PLUS {
-        6
-    } else if k == kind::MINUS {
-        6
-    } else if k == kind::ASTERISK {
-        7
-    } else if k == kind::SLASH {
-        7
-    } else if k == kind::PERCENT {
-        7
-    } else if k == kind::CARET {
-        8
-    } else {
-        0
+    match k {
+        kind::OR => 1,
+        kind::AND => 2,
+        kind::EQUAL => 4,
+        kind::NOT_EQUAL => 4,
+        kind::LESS_OR_GREATER_THAN => 4,
+        kind::LIKE => 4,
+        kind::GREATER_THAN => 5,
+        kind::GREATER_THAN_OR_EQUAL => 5,
+        kind::LESS_THAN => 5,
+        kind::LESS_THAN_OR_EQUAL => 5,
+        kind::PLUS => 6,
+        kind::MINUS => 6,
+        kind::ASTERISK => 7,
+        kind::SLASH => 7,
+        kind::PERCENT => 7,
+        kind::CARET => 8,
+        _ => 0,
     }
 }
 

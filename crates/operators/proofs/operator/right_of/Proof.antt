@@ -5,10 +5,10 @@ use borrow.Author.Tests.{eq-eqb, ne-eqb}
 use native.Mathlib.Omega.{arith}
 use mathlib.Core.Path.{ap}
 use Prim.Native.Nat.{ℕ, _+_}
-use Rattle.grammar.specs.Operator.{rightOf}
-use Rattle.grammar.proofs.Among.{precedence-most}
-use Rattle.grammar.proofs.operator.right_of.Statement.{statement}
-use Rattle.grammar.proofs.operator.right_of.Tie as tie
+use Rattle.operators.specs.Operator.{rightOf}
+use Rattle.operators.proofs.Among.{precedence-most}
+use Rattle.operators.proofs.operator.right_of.Statement.{statement}
+use Rattle.operators.proofs.operator.right_of.Tie as tie
 
 precedence-of-requires : tie.Need-precedence-of-requires
 precedence-of-requires c κs = search needs

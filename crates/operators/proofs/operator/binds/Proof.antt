@@ -4,9 +4,9 @@ use mathlib.Core.Bool.{Bool, _&&_}
 use mathlib.Core.Path.{sym, ap}
 use borrow.Author.Tests.{lt-ltb, le-ltb}
 use lib.Dec.{leb}
-use Rattle.grammar.specs.Operator.{binds}
-use Rattle.grammar.proofs.operator.binds.Statement.{statement}
-use Rattle.grammar.proofs.operator.binds.Tie as tie
+use Rattle.operators.specs.Operator.{binds}
+use Rattle.operators.proofs.operator.binds.Statement.{statement}
+use Rattle.operators.proofs.operator.binds.Tie as tie
 
 returns : tie.Need-returns
 unfolding binds

@@ -4,9 +4,9 @@ use mathlib.Core.Bool.{Bool, _&&_}
 use mathlib.Core.Path.{sym, ap}
 use borrow.Author.Tests.{le-leb, lt-leb}
 use lib.Dec.{leb}
-use Rattle.grammar.specs.Memory.{operates}
-use Rattle.grammar.proofs.operator.operates.Statement.{statement}
-use Rattle.grammar.proofs.operator.operates.Tie as tie
+use Rattle.operators.specs.Operator.{operates}
+use Rattle.operators.proofs.operator.operates.Statement.{statement}
+use Rattle.operators.proofs.operator.operates.Tie as tie
 
 returns : tie.Need-returns
 unfolding operates

@@ -8,7 +8,7 @@ use Prim.Native.Nat.{ℕ, _≤_}
 use native.Mathlib.Omega.{arith}
 use borrow.Author.Tests.{ne-eqb, leb-true}
 use lib.Dec.{eqb, leb}
-use Rattle.grammar.specs.Operator.{among, Operator, no, infixTable, infixOf}
+use Rattle.operators.specs.Operator.{among, Operator, no, infixTable, infixOf}
 
 -- k is none of the kinds of a list of pairs, as a `match` says it: one kind after the other, after what is known before
 abbrev pub Off : {A : Type 0} → ℕ → Type 0 → List (ℕ × A) → Type 0

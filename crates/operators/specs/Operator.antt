@@ -1,12 +1,13 @@
 -- Operators, and what an atom starts with, by the kind of a token (FORMAT §4).
+use mathlib.Core.Path.{_≡_}
 use Prim.Native.Nat.{ℕ, _+_}
 use mathlib.Core.Bool.{Bool, true, false, _&&_}
 use mathlib.Core.List.{List, [], _∷_}
 use lib.Dec.{eqb, ltb, leb}
 use Rattle.tokens.specs.Kind as kind
-use Rattle.grammar.specs.Kind as row
-use Rattle.grammar.specs.declared.operator.Start.{Start}
-use Rattle.grammar.specs.declared.operator.Start.the-variants.{Nothing, Number, Text, Name, Paren, Plain, Other}
+use Rattle.operators.specs.Kind as row
+use Rattle.operators.specs.declared.operator.Start.{Start}
+use Rattle.operators.specs.declared.operator.Start.the-variants.{Nothing, Number, Text, Name, Paren, Plain, Other}
 
 -- what stands beside k in a list of pairs, or else d
 unfoldable pub among : {A : Type 0} → ℕ → A → List (ℕ × A) → A
@@ -89,3 +90,17 @@ startTable =
 
 unfoldable pub startOf : ℕ → Start
 startOf k = among k Other startTable
+
+-- No entry's promise names the two that follow: they are what is said of the token after an operand.
+
+-- k lies among the operators that may follow an operand: the infix ones, and after them the postfix ones
+unfoldable pub operates : ℕ → Bool
+operates k = leb kind.OR k && leb k kind.IS
+
+-- an operand of one token ends before a token of kind k, at the minimum m: no operator of at least m follows it, and it is no call and no
+-- qualified name
+pub record Ends (k m : ℕ) : Type 0 where
+  pub noInfix : binds (infixOf k .precedence) m ≡ false
+  pub noPostfix : binds (postfixOf k) m ≡ false
+  pub paren : k ≡ kind.openParen → ⊥
+  pub period : k ≡ kind.period → ⊥

@@ -2,9 +2,9 @@
 -- Assumes nothing.
 use borrow.Author.Needs.{needs}
 use borrow.Author.Tests.{ltb-true}
-use Rattle.grammar.proofs.Alone.{ends-before, ends-lower, ends-unsaid, ends-past}
-use Rattle.grammar.proofs.operator.ends.Statement.{statement}
-use Rattle.grammar.proofs.operator.ends.Tie as tie
+use Rattle.operators.proofs.Ends.{ends-before, ends-lower, ends-unsaid, ends-past}
+use Rattle.operators.proofs.operator.ends.Statement.{statement}
+use Rattle.operators.proofs.operator.ends.Tie as tie
 
 returns : tie.Need-returns
 returns c = λ e. ends-before _ _ (c .if1 .taken)

@@ -1,11 +1,11 @@
 -- `operator::start_of` meets its contract: each arm is an entry of the table.
 -- Assumes nothing.
 use mathlib.Core.Path.{sym, ap}
-use Rattle.grammar.specs.Operator.{among, startTable, startOf}
-use Rattle.grammar.specs.declared.operator.Start.the-variants.{Other}
-use Rattle.grammar.proofs.Among.{not-among}
-use Rattle.grammar.proofs.operator.start_of.Statement.{statement}
-use Rattle.grammar.proofs.operator.start_of.Tie as tie
+use Rattle.operators.specs.Operator.{among, startTable, startOf}
+use Rattle.operators.specs.declared.operator.Start.the-variants.{Other}
+use Rattle.operators.proofs.Among.{not-among}
+use Rattle.operators.proofs.operator.start_of.Statement.{statement}
+use Rattle.operators.proofs.operator.start_of.Tie as tie
 
 returns : tie.Need-returns
 unfolding startOf among

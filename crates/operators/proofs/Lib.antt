@@ -1,0 +1,3 @@
+-- Laws of the definitions that the functions' proofs, here and in the crates above, cite.
+pub mod Among
+pub mod Ends

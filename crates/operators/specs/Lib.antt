@@ -1,0 +1,3 @@
+-- What the contracts of `operators` say, as definitions: read Kind for the rows that a reading writes, then Operator.
+pub mod Kind
+pub mod Operator
