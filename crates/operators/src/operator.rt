@@ -16,28 +16,44 @@ pub enum Start {
     Other,
 }
 
-// The precedence of an infix operator, and 0 for any other kind.
+// The precedence of an infix operator, and 0 for any other kind. The compiler makes shorter code of these tests than of a `match`.
 pub fn precedence_of(k: u32) -> u32
     ensures { λ r. ⌜ r ≡ infixOf k .precedence ⌝ }
 {
-    match k {
-        kind::OR => 1,
-        kind::AND => 2,
-        kind::EQUAL => 4,
-        kind::NOT_EQUAL => 4,
-        kind::LESS_OR_GREATER_THAN => 4,
-        kind::LIKE => 4,
-        kind::GREATER_THAN => 5,
-        kind::GREATER_THAN_OR_EQUAL => 5,
-        kind::LESS_THAN => 5,
-        kind::LESS_THAN_OR_EQUAL => 5,
-        kind::PLUS => 6,
-        kind::MINUS => 6,
-        kind::ASTERISK => 7,
-        kind::SLASH => 7,
-        kind::PERCENT => 7,
-        kind::CARET => 8,
-        _ => 0,
+    if k == kind::OR {
+        1
+    } else if k == kind::AND {
+        2
+    } else if k == kind::EQUAL {
+        4
+    } else if k == kind::NOT_EQUAL {
+        4
+    } else if k == kind::LESS_OR_GREATER_THAN {
+        4
+    } else if k == kind::LIKE {
+        4
+    } else if k == kind::GREATER_THAN {
+        5
+    } else if k == kind::GREATER_THAN_OR_EQUAL {
+        5
+    } else if k == kind::LESS_THAN {
+        5
+    } else if k == kind::LESS_THAN_OR_EQUAL {
+        5
+    } else if k == kind::PLUS {
+        6
+    } else if k == kind::MINUS {
+        6
+    } else if k == kind::ASTERISK {
+        7
+    } else if k == kind::SLASH {
+        7
+    } else if k == kind::PERCENT {
+        7
+    } else if k == kind::CARET {
+        8
+    } else {
+        0
     }
 }
 
