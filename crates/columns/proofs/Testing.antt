@@ -1,20 +1,19 @@
 -- What an atom tests, by its row: the cases of `equalOf` and `isOf`, and `testOf` and `leafOf` of the tree at a row.
 -- Assumes nothing.
-use mathlib.Core.Path.{_≡_, refl, sym, ap, subst, _∙_}
-use Prim.Native.Nat.{ℕ, _<_}
+use mathlib.Core.Path.{_≡_, refl, sym, ap, _∙_}
+use Prim.Native.Nat.{ℕ}
 use mathlib.Core.Bool.{Bool, true, false, _&&_, and-false}
 use mathlib.Core.List.{List, map}
-use native.Mathlib.Omega.{arith}
 use borrow.Author.Tests.{eqb-true, eq-eqb, ne-eqb}
 use lib.Dec.{leb}
 use Rattle.rows.specs.Layout.{rowAt}
 use Rattle.rows.specs.declared.Row.{Row}
 use Rattle.predicate.specs.Kind as kind
 use Rattle.predicate.specs.Row.{shapeAt, arityOf, operandsOf}
-use Rattle.predicate.specs.Tree.{Tree, nodeOf, treeAt, Falls, Sound}
+use Rattle.predicate.specs.Tree.{Tree, nodeOf, treeAt, Sound}
 use Rattle.predicate.specs.declared.Shape.{Shape}
 use Rattle.predicate.specs.declared.Shape.the-variants as shape
-use Rattle.predicate.proofs.Trees.{sound-below, tree-step}
+use Rattle.predicate.proofs.Shapes.{node-at}
 use Rattle.columns.specs.Lookup.{noRow, leafOf, isColumn, isConstant, equalOf, isOf, testOf}
 use Rattle.columns.specs.Gather.{isLeaf}
 use Rattle.columns.specs.declared.test.Test.{Test}
@@ -49,42 +48,6 @@ module _ (v w : Row) where
   equal-none e f = rw (e, f, equalOf)
 
 -- ---- trees
-
-module _ {l : List ℕ} {r : ℕ} (h : Sound l r) {s k : Shape} (e : s ≡ shapeAt l r) (f : s ≡ k) where
-  pub node-at : treeAt l r ≡ nodeOf k r (rowAt l r) (map (treeAt l) (operandsOf (arityOf k)))
-  node-at = tree-step h ∙ ap (λ (q : Shape). nodeOf q r (rowAt l r) (map (treeAt l) (operandsOf (arityOf q)))) (sym e ∙ f)
-
-  -- the operands of row r stand before it
-  pub falls-at : Falls (arityOf k) r
-  falls-at = subst (λ (q : Shape). Falls (arityOf q) r) (sym e ∙ f) (h .falls r (omega arith))
-
--- operands stand before their row
-module _ {l : List ℕ} {r : ℕ} (h : Sound l r) {s : Shape} (e : s ≡ shapeAt l r) where
-  pub falls-both : {x y : ℕ} → s ≡ shape.Both x y → (x < r) × (y < r)
-  unfolding arityOf
-  falls-both f = falls-at h e f
-
-  pub falls-either : {x y : ℕ} → s ≡ shape.Either x y → (x < r) × (y < r)
-  unfolding arityOf
-  falls-either f = falls-at h e f
-
-  pub falls-not : {x : ℕ} → s ≡ shape.Not x → x < r
-  unfolding arityOf
-  falls-not f = falls-at h e f
-
--- each operand's subtree is sound
-module _ {l : List ℕ} {r : ℕ} (h : Sound l r) {s : Shape} (e : s ≡ shapeAt l r) where
-  pub sound-operand-one : {x : ℕ} → s ≡ shape.One x → Sound l x
-  unfolding arityOf
-  sound-operand-one {x} f = let lt = falls-at h e f in sound-below x h (omega arith)
-
-  pub sound-left : {x y : ℕ} → s ≡ shape.Two x y → Sound l x
-  unfolding arityOf
-  sound-left {x} f = let lt = falls-at h e f in sound-below x h (omega (arith, lt .0))
-
-  pub sound-right : {x y : ℕ} → s ≡ shape.Two x y → Sound l y
-  unfolding arityOf
-  sound-right {x} {y} f = let lt = falls-at h e f in sound-below y h (omega (arith, lt .1))
 
 leaf-node : (s : Shape) (r : ℕ) (w : Row) (ts : List Tree) (b : Bool) → isLeaf s ≡ b → leafOf (nodeOf s r w ts) ≡ elim b [ true ↦ w | false ↦ noRow ]
 unfolding leafOf nodeOf isLeaf

@@ -114,7 +114,7 @@ fn number_of(word: &[u8]) -> Number {
 }
 
 // Writes a number where there is a place for it.
-fn keep(out: &mut [u64], n: usize, value: u64)
+pub fn keep(out: &mut [u64], n: usize, value: u64)
     ensures { λ _. ⌜ length (now (out .exit)) ≡ length (now (out .entry)) ⌝ }
 {
     if n < out.len() {

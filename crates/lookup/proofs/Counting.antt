@@ -19,7 +19,7 @@ use Rattle.normal.specs.Clause.{clauses, bit}
 use Rattle.normal.proofs.Sizes.{length-join, clauses-some}
 use Rattle.lookup.specs.Find.{held, countOf, countIn, countsOf, Counted}
 use Rattle.lookup.specs.declared.counts.Counts.{Counts}
-use Rattle.columns.proofs.Testing.{node-at}
+use Rattle.predicate.proofs.Shapes.{node-at}
 
 -- ---- held sums and products
 

@@ -36,6 +36,10 @@ unfoldable pub countIn : Counts → Bool → ℕ
 countIn c false = c .plain
 countIn c true = c .negated
 
+-- an atom's
+abbrev pub one : Counts
+one = record { plain = 1; negated = 1 }
+
 -- in both readings
 unfoldable pub countsOf : List ℕ → ℕ → Counts
 countsOf l r = record { plain = countOf l r false; negated = countOf l r true }

@@ -5,9 +5,6 @@ use columns::gather::gather_at;
 use normal::Part;
 use normal::part_at;
 ghost use mathlib.Core.Path.{_≡_};
-ghost use mathlib.Core.Bool.{false};
-ghost use Prim.Native.Nat.{_+_, _*_, _<_, _≤_};
-ghost use lib.ListN.{length};
 ghost use Rattle.lookup.specs.Find.{Ready, turnOf, gatheredOf};
 
 // A row, and a clause of it.

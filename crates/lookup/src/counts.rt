@@ -7,7 +7,7 @@ ghost use Prim.Native.Nat.{_+_, _*_, _<_, _≤_, min};
 ghost use lib.ListN.{length, getD};
 ghost use Rattle.predicate.specs.Tree.{Sound};
 ghost use Rattle.normal.specs.Clause.{bit};
-ghost use Rattle.lookup.specs.Find.{held, countIn, countsOf, Counted};
+ghost use Rattle.lookup.specs.Find.{held, countIn, one, countsOf, Counted};
 
 // The clauses of a row in both readings, held at one more than the most that are listed.
 pub struct Counts {
@@ -60,6 +60,16 @@ pub fn count_at(table: &[u16], r: usize, neg: bool) -> usize
     }
 }
 
+// Those of an atom, which has one clause in both readings.
+fn single() -> Counts
+    ensures { λ c. ⌜ c ≡ one ⌝ }
+{
+    Counts {
+        plain: 1,
+        negated: 1,
+    }
+}
+
 // The counts of a row, from those of its operands.
 fn counted(rows: &[u64], table: &[u16], r: usize) -> Counts
     requires { ⌜ Sound (now rows) r × (2 * r ≤ length (now table)) × Counted (now rows) (now table) r ⌝ }
@@ -67,18 +77,9 @@ fn counted(rows: &[u64], table: &[u16], r: usize) -> Counts
 {
     let s = shape_at(rows, r);
     match s {
-        Shape::Leaf => Counts {
-            plain: 1,
-            negated: 1,
-        },
-        Shape::One(_) => Counts {
-            plain: 1,
-            negated: 1,
-        },
-        Shape::Two(_, _) => Counts {
-            plain: 1,
-            negated: 1,
-        },
+        Shape::Leaf => single(),
+        Shape::One(_) => single(),
+        Shape::Two(_, _) => single(),
         Shape::Both(x, y) => {
             let a = counts_at(table, x);
             let b = counts_at(table, y);

@@ -1,6 +1,5 @@
 -- The clauses of a row, by its part: an atom's one literal, or two rows' lists joined (`part-is`). Counting goes by `count-here` and `count-join`, and along
--- left sides by `along-begins`, `along-turns` and `along-ends`; the loop
--- that follows NOTs by `part-shape` and `not-falls`.
+-- left sides by `along-begins`, `along-turns` and `along-ends`; the loop that follows NOTs by `part-shape`.
 -- Assumes nothing.
 use Prim.Native.Nat.{ℕ, zero, suc, _+_, _*_, _<_, _≤_}
 use mathlib.Core.Path.{_≡_, refl, sym, ap, ap₂, _∙_, subst}
@@ -59,9 +58,6 @@ part-step l r g s = go (shapeAt l r) (s .falls r (omega arith))
 module _ {l : List ℕ} {r : ℕ} (g : Bool) {s k : Shape} (h : Sound l r) (e : k ≡ shapeAt l r) (f : k ≡ s) where
   pub part-shape : partAt l r g ≡ partOf s r g (partAt l)
   part-shape = part-step l r g h ∙ ap (λ (q : Shape). partOf q r g (partAt l)) (sym e ∙ f)
-
-  pub not-falls : Falls (arityOf s) r
-  not-falls = subst (λ (q : Shape). Falls (arityOf q) r) (sym e ∙ f) (h .falls r (omega arith))
 
 -- ---- what a part says
 

@@ -1,4 +1,5 @@
 // The stored lists as numbers: a line is fields with one space between them, and a field is a decimal number or one letter.
+use form::numbers::keep;
 ghost use mathlib.Core.Path.{_≡_};
 ghost use Prim.Native.Nat.{_+_, _≤_, _<_, _^_};
 ghost use lib.ListN.{length};
@@ -26,15 +27,6 @@ fn grown(value: u64, b: u8) -> u64 {
     }
 }
 
-// Writes a field where there is a place for it.
-pub fn keep(out: &mut [u64], n: usize, value: u64)
-    ensures { λ _. ⌜ length (now (out .exit)) ≡ length (now (out .entry)) ⌝ }
-{
-    if n < out.len() {
-        out[n] = value;
-    }
-}
-
 // The fields after one more byte of the line.
 fn step(out: &mut [u64], so: Open, b: u8) -> Open
     requires { ⌜ so .count + 1 < 2 ^ 64 ⌝ }
@@ -54,21 +46,6 @@ fn step(out: &mut [u64], so: Open, b: u8) -> Open
             value: grown(value, b),
         }
     }
-}
-
-// Where the line that starts at `at` ends.
-pub fn line_end(s: &[u8], at: usize) -> usize
-    requires { ⌜ at ≤ length (now s) ⌝ }
-    ensures { λ r. ⌜ (at ≤ r) × (r ≤ length (now (s .entry))) ⌝ }
-{
-    let mut end = at;
-    while end < s.len() {
-        if s[end] == b'\n' {
-            return end;
-        }
-        end += 1;
-    }
-    end
 }
 
 // The fields of a line, as many as there are places for, and how many there are.

@@ -1,7 +1,7 @@
 // Replays the stored answers of the original (the lists in data/): says how many cases each list has, how many of them the library answers otherwise, and
 // the line of the first that it does.
 use fields::fields_of;
-use fields::line_end;
+use form::scan::until;
 use libc::STDOUT_FILENO;
 
 mod fields;
@@ -74,7 +74,7 @@ fn replayed(s: &[u8]) -> Tally
     };
     let mut at = 0;
     while at < s.len() {
-        let end = line_end(s, at);
+        let end = until(s, at, b'\n');
         t = counted(t, line_right(&s[at..end]));
         at = end + 1;
     }

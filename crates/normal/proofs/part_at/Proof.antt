@@ -3,10 +3,10 @@
 use mathlib.Core.Path.{_≡_, refl, sym, _∙_}
 use native.Mathlib.Omega.{arith}
 use Rattle.predicate.specs.Tree.{Sound}
-use Rattle.predicate.specs.Row.{arityOf}
 use Rattle.predicate.proofs.Trees.{sound-below}
+use Rattle.predicate.proofs.Shapes.{falls-not}
 use Rattle.normal.specs.Part.{partOf, partAt}
-use Rattle.normal.proofs.Rows.{part-shape, not-falls}
+use Rattle.normal.proofs.Rows.{part-shape}
 use borrow.Author.Needs.{needs}
 use Rattle.normal.proofs.part_at.Statement.{statement}
 use Rattle.normal.proofs.part_at.Tie as tie
@@ -62,12 +62,11 @@ enum-known-s-3 : tie.Need-enum-known-s-3 Inv-loop μ-loop
 enum-known-s-3 c = search needs
 
 loop-less : tie.Need-loop-less Inv-loop μ-loop
-unfolding arityOf
-loop-less c = not-falls (c .before .before .before .before .loop .neg) (c .before .before .before .before .loop .inv .0) (c .before .before .before .shape-at .ensures) (c .before .s3 .given .1)
+loop-less c = falls-not (c .before .before .before .before .loop .inv .0) (c .before .before .before .shape-at .ensures) (c .before .s3 .given .1)
 
 loop-again : tie.Need-loop-again Inv-loop μ-loop
-unfolding partOf arityOf
-loop-again c = let h = not-falls (c .before .before .before .before .loop .neg) (c .before .before .before .before .loop .inv .0) (c .before .before .before .shape-at .ensures) (c .before .s3 .given .1) in (sound-below (c .before .s3 .given .0 .0) (c .before .before .before .before .loop .inv .0) (omega (arith, h)), sym (part-shape (c .before .before .before .before .loop .neg) (c .before .before .before .before .loop .inv .0) (c .before .before .before .shape-at .ensures) (c .before .s3 .given .1)) ∙ c .before .before .before .before .loop .inv .1)
+unfolding partOf
+loop-again c = let h = falls-not (c .before .before .before .before .loop .inv .0) (c .before .before .before .shape-at .ensures) (c .before .s3 .given .1) in (sound-below (c .before .s3 .given .0 .0) (c .before .before .before .before .loop .inv .0) (omega (arith, h)), sym (part-shape (c .before .before .before .before .loop .neg) (c .before .before .before .before .loop .inv .0) (c .before .before .before .shape-at .ensures) (c .before .s3 .given .1)) ∙ c .before .before .before .before .loop .inv .1)
 
 pub part-at-spec : {M : Type 1} → statement M
 part-at-spec =

@@ -2,8 +2,9 @@
 -- Assumes nothing.
 use Rattle.columns.specs.Lookup.{isOf, equalOf}
 use mathlib.Core.Path.{sym, ap, ap₂, _∙_}
-use Rattle.columns.proofs.Testing.{sound-operand-one, sound-left, sound-right, test-is, test-unary, test-equal, test-binary, test-leaf, test-both, test-either, test-not}
+use Rattle.columns.proofs.Testing.{test-is, test-unary, test-equal, test-binary, test-leaf, test-both, test-either, test-not}
 use Rattle.rows.specs.declared.Row.{Row}
+use Rattle.predicate.proofs.Shapes.{sound-operand, sound-left, sound-right}
 use borrow.Author.Needs.{needs}
 use Rattle.columns.proofs.test.test_at.Statement.{statement}
 use Rattle.columns.proofs.test.test_at.Tie as tie
@@ -18,7 +19,7 @@ enum-known-s : tie.Need-enum-known-s
 enum-known-s c = search needs
 
 leaf-at-requires : tie.Need-leaf-at-requires
-leaf-at-requires c κs = sound-operand-one (c .before .before .before .before .before .before .before .before .pre) (c .before .before .before .before .before .shape-at .ensures) (c .before .before .before .s .given .1)
+leaf-at-requires c κs = sound-operand (c .before .before .before .before .before .before .before .before .pre) (c .before .before .before .before .before .shape-at .ensures) (c .before .before .before .s .given .1)
 
 is-of-requires : tie.Need-is-of-requires
 is-of-requires c κs = search needs

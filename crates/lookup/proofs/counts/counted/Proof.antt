@@ -3,7 +3,7 @@
 use mathlib.Core.Path.{_∙_}
 use mathlib.Core.Bool.{true, false}
 use native.Mathlib.Omega.{arith}
-use Rattle.columns.proofs.Testing.{falls-both, falls-either, falls-not}
+use Rattle.predicate.proofs.Shapes.{falls-both, falls-either, falls-not}
 use Rattle.lookup.proofs.Counting.{read-plain, read-negated, small-count, counts-is, count-leaf, count-one, count-two, count-not, both-plain, both-negated, either-plain, either-negated}
 use borrow.Author.Needs.{needs}
 use Rattle.lookup.proofs.counts.counted.Statement.{statement}
@@ -15,11 +15,20 @@ shape-at-requires c κs = search needs
 enum-told : tie.Need-enum-told
 enum-told c = search needs
 
+single-requires : tie.Need-single-requires
+single-requires c κs = search needs
+
 enum-told-2 : tie.Need-enum-told-2
 enum-told-2 c = search needs
 
+single-requires-2 : tie.Need-single-requires-2
+single-requires-2 c κs = search needs
+
 enum-told-3 : tie.Need-enum-told-3
 enum-told-3 c = search needs
+
+single-requires-3 : tie.Need-single-requires-3
+single-requires-3 c κs = search needs
 
 enum-known-s : tie.Need-enum-known-s
 enum-known-s c = search needs
@@ -58,13 +67,13 @@ counts-at-requires-5 : tie.Need-counts-at-requires-5
 counts-at-requires-5 c κs = omega (arith, falls-not (c .before .before .before .before .before .before .pre .0) (c .before .before .before .shape-at .ensures) (c .before .s3 .given .1))
 
 returns : tie.Need-returns
-returns c = let one = count-leaf (c .before .before .before .before .before .pre .0) (c .before .before .shape-at .ensures) (c .enum-told .given .1) in counts-is _ _ (one false) (one true)
+returns c = let one = count-leaf (c .before .before .before .before .before .before .pre .0) (c .before .before .before .shape-at .ensures) (c .before .enum-told .given .1) in c .single .ensures ∙ counts-is _ _ (one false) (one true)
 
 returns-2 : tie.Need-returns-2
-returns-2 c = let one = count-one (c .before .before .before .before .before .pre .0) (c .before .before .shape-at .ensures) (c .enum-told2 .given .1) in counts-is _ _ (one false) (one true)
+returns-2 c = let one = count-one (c .before .before .before .before .before .before .pre .0) (c .before .before .before .shape-at .ensures) (c .before .enum-told2 .given .1) in c .single2 .ensures ∙ counts-is _ _ (one false) (one true)
 
 returns-3 : tie.Need-returns-3
-returns-3 c = let one = count-two (c .before .before .before .before .before .pre .0) (c .before .before .shape-at .ensures) (c .enum-told3 .given .1) in counts-is _ _ (one false) (one true)
+returns-3 c = let one = count-two (c .before .before .before .before .before .before .pre .0) (c .before .before .before .shape-at .ensures) (c .before .enum-told3 .given .1) in c .single3 .ensures ∙ counts-is _ _ (one false) (one true)
 
 returns-4 : tie.Need-returns-4
 returns-4 c = let f = falls-both (c .before .before .before .before .before .before .before .before .before .before .pre .0) (c .before .before .before .before .before .before .before .shape-at .ensures) (c .before .before .before .before .before .s .given .1) in counts-is _ _ (c .before .sum .ensures ∙ both-plain (c .before .before .before .before .before .before .before .before .before .before .pre .0) (c .before .before .before .before .before .before .before .shape-at .ensures) (c .before .before .before .before .before .s .given .1) (read-plain (c .before .before .before .before .before .before .before .before .before .before .pre .2) (f .0) (c .before .before .before .counts-at .result) (c .before .before .before .counts-at .ensures)) (read-plain (c .before .before .before .before .before .before .before .before .before .before .pre .2) (f .1) (c .before .before .counts-at2 .result) (c .before .before .counts-at2 .ensures))) (c .product .ensures ∙ both-negated (c .before .before .before .before .before .before .before .before .before .before .pre .0) (c .before .before .before .before .before .before .before .shape-at .ensures) (c .before .before .before .before .before .s .given .1) (read-negated (c .before .before .before .before .before .before .before .before .before .before .pre .2) (f .0) (c .before .before .before .counts-at .result) (c .before .before .before .counts-at .ensures)) (read-negated (c .before .before .before .before .before .before .before .before .before .before .pre .2) (f .1) (c .before .before .counts-at2 .result) (c .before .before .counts-at2 .ensures)))
@@ -81,8 +90,11 @@ counted-spec =
     (tie.spec
     shape-at-requires
     enum-told
+    single-requires
     enum-told-2
+    single-requires-2
     enum-told-3
+    single-requires-3
     enum-known-s
     counts-at-requires
     counts-at-requires-2
