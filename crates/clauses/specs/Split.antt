@@ -1,11 +1,10 @@
 -- What `split` answers and leaves in the lent lists (FORMAT §8 and §11), and that this means the predicate.
 use Prim.Native.Nat.{ℕ}
 use mathlib.Core.Path.{_≡_}
-use mathlib.Core.Bool.{Bool, true, false, _||_}
+use mathlib.Core.Bool.{true, false, _||_}
 use mathlib.Core.List.{List, _++_}
 use lib.ListN.{length, take, drop}
 use lib.Dec.{ltb}
-use Rattle.tokens.specs.declared.refusal.Refusal.{Refusal}
 use Rattle.tokens.specs.declared.refusal.Refusal.the-variants.{TooMany, NoList}
 use Rattle.predicate.specs.Tree.{Tree}
 use Rattle.predicate.specs.Read.{Reading, one, refused, readRows}
@@ -42,7 +41,7 @@ unfoldable pub splitOf : Reading → List ℕ → List ℕ → Split
 splitOf (refused why place) a d = record { answer = Refused why place; literals = a; ends = d }
 splitOf (one t) a d = listOf (clauses false t) a d
 
--- v is answered, and the lists a and d become b and e, as `s` has it
+-- v is answered, and the lists then hold b and e, as s has it
 pub record Gives (s : Split) (v : Listed) (b e : List ℕ) : Type 0 where
   pub answer : v ≡ s .answer
   pub literals : b ≡ s .literals

@@ -5,7 +5,6 @@ use Prim.Native.Nat.{ℕ}
 use mathlib.Core.List.{List}
 use Rattle.tokens.specs.Refusal.{numberOf}
 use Rattle.rows.specs.declared.Row.{Row}
-use Rattle.predicate.specs.Read.{readRows}
 use Rattle.grammar.specs.Rules.{levelMax}
 use Rattle.syntax.specs.Promise.{Parses}
 use Rattle.syntax.specs.declared.Parsed.{Parsed}
@@ -14,7 +13,7 @@ use Rattle.clauses.specs.Split.{Promise}
 use Rattle.clauses.specs.declared.Listed.{Listed}
 use Rattle.clauses.specs.declared.Listed.the-variants as listed
 use Rattle.values.specs.Value.{rowOf}
-use Rattle.lookup.specs.Answer.{LooksUp, asked, foundOf}
+use Rattle.lookup.specs.Answer.{LooksUp}
 use Rattle.lookup.specs.declared.Looked.{Looked}
 use Rattle.lookup.specs.declared.Looked.the-variants as looked
 use Rattle.lookup.specs.declared.Found.{Found}
@@ -40,12 +39,12 @@ valueCode (found.Refused why place) = numberOf why
 
 -- ---- what is handed out
 
--- how many rows were written
+-- how many rows were written, or the place
 unfoldable pub parsedAt : Parsed → ℕ
 parsedAt (parsed.Rows n) = n
 parsedAt (parsed.Refused why place) = place
 
--- how many clauses, and how many literals
+-- how many clauses, and how many literals; or the place, and 0
 unfoldable pub clausesOut : Listed → ℕ
 clausesOut (listed.Clauses c m) = c
 clausesOut (listed.Refused why place) = place
@@ -54,7 +53,7 @@ unfoldable pub totalOut : Listed → ℕ
 totalOut (listed.Clauses c m) = m
 totalOut (listed.Refused why place) = 0
 
--- the column, and how many values there are
+-- the column, and how many values there are; or the place, and 0
 unfoldable pub columnOut : Looked → ℕ
 columnOut (looked.On c n) = c
 columnOut (looked.Refused why place) = place
@@ -63,7 +62,7 @@ unfoldable pub countOut : Looked → ℕ
 countOut (looked.On c n) = n
 countOut (looked.Refused why place) = 0
 
--- the value, as a constant's row
+-- the value, as a constant's row; or the place, and zeros
 unfoldable pub valueOut : Found → Row
 valueOut (found.At v) = rowOf v
 valueOut (found.Refused why place) = record { kind = place; x = 0; y = 0 }

@@ -65,7 +65,7 @@ module _ (text ts : List ℕ) (cap : ℕ) where
   unfoldable pub due : ℕ → ℕ → Tree → Reading
   due at used x = elim (leb cap used) [ true ↦ refuse NoRoom at | false ↦ done at (used + 1) x ]
 
-  -- the token that is needed here is not: none is left, or another stands here
+  -- the token that is needed is missing: none is left (END), or another stands here
   unfoldable pub missing : Refusal → ℕ → Reading
   missing why at = elim (eqb (kindAt ts at) kind.none) [ true ↦ refuse End at | false ↦ refuse why at ]
 
@@ -200,6 +200,6 @@ module _ (text ts : List ℕ) (cap : ℕ) where
     (at, used, x) ← expression levels 0 0 0
     finish at used x
 
--- the whole without a room limit: a table of as many rows as there are tokens is always large enough
+-- the whole without a room limit: a table of as many rows as there are tokens is always large enough. No entry's promise names it
 unfoldable pub free : List ℕ → List ℕ → ℕ → Reading
 free text ts levels = whole text ts (count ts) levels

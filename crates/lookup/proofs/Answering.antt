@@ -23,9 +23,10 @@ use Rattle.normal.specs.Size.{sizeOf}
 use Rattle.normal.specs.declared.Size.{Size}
 use Rattle.normal.specs.declared.Size.the-variants as size
 use Rattle.normal.proofs.Sizes.{size-is, size-many}
-use Rattle.lookup.specs.Cell.{Cell, isTrue}
+use Rattle.lookup.specs.Cell.{isTrue}
+use Rattle.lookup.specs.Meaning.{World, clauseValue, anyMatch}
 use Rattle.columns.specs.Lookup.{Look, on, none, testIn, lookIn, lookOf}
-use Rattle.lookup.specs.Answer.{Asked, holds, refuse, askedOf, askedIn, asked, lookedOf, foundOf, clauseValue, anyMatch, handed, handedOut, LooksUp}
+use Rattle.lookup.specs.Answer.{Asked, holds, refuse, askedOf, askedIn, asked, lookedOf, foundOf, handed, handedOut, LooksUp}
 use Rattle.columns.specs.Gather.{gatherAll, values}
 use Rattle.lookup.specs.Find.{Counted, Ready, answerOf, answered}
 use Rattle.columns.specs.declared.test.Test.{Test}
@@ -158,24 +159,25 @@ handed-some c vs (suc n) le =
 handed-all : (c : ℕ) (vs : List Value) → handedOut (holds c vs) (length vs) ≡ vs
 handed-all c vs = handed-some c vs (length vs) (omega arith) ∙ take-length vs
 
-module _ (text : List ℕ) (cell : Cell) where
+module _ (text : List ℕ) (world : World) where
   look-means : (c n : ℕ) (ls : List Literal) (k : Look) → lookOf ls ≡ k → lookedOf (askedOf k) ≡ looked.On c n →
-      isTrue (clauseValue text cell ls) ≡ anyMatch text cell (handedOut (askedOf k) n)
+      isTrue (clauseValue text world ls) ≡ anyMatch text (world .column c) (handedOut (askedOf k) n)
   unfolding askedOf lookedOf
   look-means c n ls (on d vs) e f =
       let many : length vs ≡ n = cc in
-      lookup-matches text cell d ls vs e ∙ ap (anyMatch text cell) (sym (handed-all d vs) ∙ ap (handedOut (holds d vs)) many)
+      let here : d ≡ c = cc in
+      lookup-matches text world c ls vs (e ∙ ap (λ (i : ℕ). on i vs) here) ∙ ap (anyMatch text (world .column c)) (sym (handed-all d vs) ∙ ap (handedOut (holds d vs)) many)
   look-means c n ls none e f = let z : _≡_ {A = ℕ} 0 1 = cc in absurd (omega arith)
 
   clause-means : (c n : ℕ) (cs : List (List Literal)) (k : ℕ) → lookedOf (askedIn cs k) ≡ looked.On c n →
-      isTrue (clauseValue text cell (getD cs k [])) ≡ anyMatch text cell (handedOut (askedIn cs k) n)
+      isTrue (clauseValue text world (getD cs k [])) ≡ anyMatch text (world .column c) (handedOut (askedIn cs k) n)
   unfolding askedIn lookedOf
   clause-means c n cs k e = by (ltb clausesMax (length cs) || ltb literalsMax (total cs)) (ltb k (length cs)) e
     where
       by : (p q : Bool) →
           lookedOf (elim p [ true ↦ refuse refusal.TooMany 0 | false ↦ elim q [ true ↦ askedOf (lookOf (getD cs k [])) | false ↦ refuse refusal.NoSuch 0 ] ]) ≡ looked.On c n →
-          isTrue (clauseValue text cell (getD cs k []))
-          ≡ anyMatch text cell (handedOut (elim p [ true ↦ refuse refusal.TooMany 0 | false ↦ elim q [ true ↦ askedOf (lookOf (getD cs k [])) | false ↦ refuse refusal.NoSuch 0 ] ]) n)
+          isTrue (clauseValue text world (getD cs k []))
+          ≡ anyMatch text (world .column c) (handedOut (elim p [ true ↦ refuse refusal.TooMany 0 | false ↦ elim q [ true ↦ askedOf (lookOf (getD cs k [])) | false ↦ refuse refusal.NoSuch 0 ] ]) n)
       by true q f = let z : _≡_ {A = ℕ} 0 1 = cc in absurd (omega arith)
       by false true f = look-means c n (getD cs k []) (lookOf (getD cs k [])) refl f
       by false false f = let z : _≡_ {A = ℕ} 0 1 = cc in absurd (omega arith)
@@ -185,7 +187,7 @@ unfolding asked
 looks-up text rows k {v} e =
     record {
       answer = e;
-      means = λ t c n is on cell.
+      means = λ t c n is on world.
           let here : asked (readRows text rows) k ≡ askedIn (clauses false t) k = ap (λ (r : Reading). asked r k) is in
-          clause-means text cell c n (clauses false t) k (ap lookedOf (sym here) ∙ sym e ∙ on) ∙ ap (λ (a : Asked). anyMatch text cell (handedOut a n)) (sym here);
+          clause-means text world c n (clauses false t) k (ap lookedOf (sym here) ∙ sym e ∙ on) ∙ ap (λ (a : Asked). anyMatch text (world .column c) (handedOut a n)) (sym here);
     }

@@ -1,18 +1,23 @@
--- A lookup keeps exactly the right cells: where a clause is a lookup, a cell in its column makes it TRUE exactly if the cell matches one of its values.
+-- A lookup keeps exactly the right cells (`lookup-matches`): where a clause is a lookup on a column, it is TRUE exactly if the column's cell matches one of
+-- its values. `literal-test` says that the test which stands for a literal has the literal's value.
 -- Assumes nothing.
-use mathlib.Core.Path.{_≡_, refl, sym, ap, _∙_}
-use Prim.Native.Nat.{ℕ}
-use mathlib.Core.Bool.{Bool, true, false, _&&_, _||_, or-false, or-assoc, and-false, and-true}
+use mathlib.Core.Path.{_≡_, refl, sym, ap, ap₂, _∙_}
+use Prim.Native.Nat.{ℕ, _*_}
+use mathlib.Core.Bool.{Bool, true, false, _&&_, _||_, Bool·beq, or-false, or-assoc, and-false, and-true}
 use mathlib.Core.List.{List, [], _∷_, _++_, map}
 use native.Mathlib.Omega.{arith}
-use lib.Dec.{eqb}
-use lib.Ieee.{Float, nan, inf, fin, eq, isNan}
+use borrow.Author.Tests.{eqb-true, eqb-false, eq-eqb, ne-eqb}
+use lib.Dec.{eqb, leb}
+use lib.IntN.{ℤ, pos, negsuc}
+use lib.Ieee.{Float, nan, inf, fin, eq, level, up, down, isNan}
+use Rattle.predicate.specs.Kind as kind
+use Rattle.predicate.specs.Tree.{Tree, leaf, unary, binary, both, either, negate}
 use Rattle.normal.specs.Kleene as kleene
-use Rattle.normal.specs.Clause.{Literal}
+use Rattle.normal.specs.Clause.{Literal, literal}
 use Rattle.values.specs.Value.{valueOf, undefined}
-use Rattle.lookup.specs.Cell.{Cell, null, boolean, integer, float, string, cellOf, isNull, isNaN, same, truth, isTrue, equal, is, matches}
-use Rattle.columns.specs.Lookup.{on, none, testIn, tests, allTest, valueIn, valuesIn, lookOn, lookFrom, lookIn, lookOf}
-use Rattle.lookup.specs.Answer.{testValue, clauseValue, anyMatch}
+use Rattle.lookup.specs.Cell.{Cell, null, boolean, integer, float, string, cellOf, isNull, isNaN, sameInteger, sameBytes, same, truth, isTrue, equal, is, matches}
+use Rattle.columns.specs.Lookup.{noRow, leafOf, isColumn, isConstant, equalOf, isOf, testOf, on, none, testIn, tests, allTest, valueIn, valuesIn, lookOn, lookFrom, lookIn, lookOf}
+use Rattle.lookup.specs.Meaning.{World, cellIn, predicateValue, literalValue, clauseValue, anyMatch}
 use Rattle.rows.specs.declared.Row.{Row}
 use Rattle.columns.specs.declared.test.Test.{Test}
 use Rattle.columns.specs.declared.test.Test.the-variants.{Other, Equals, Is}
@@ -65,6 +70,178 @@ and-first false b e = e
 and-second : (a b : Bool) → (a && b) ≡ true → b ≡ true
 and-second true b e = e
 and-second false b e = let z : _≡_ {A = ℕ} 0 1 = cc in absurd (omega arith)
+
+-- ---- Equal does not mind which side is which
+
+false-true : {A : Type 0} → false ≡ true → A
+false-true e = let z : _≡_ {A = ℕ} 0 1 = cc in absurd (omega arith)
+
+eqb-turned : (m n : ℕ) → eqb m n ≡ eqb n m
+eqb-turned m n = by (eqb m n) refl
+  where
+    by : (b : Bool) → eqb m n ≡ b → b ≡ eqb n m
+    by true e = sym (eq-eqb n m (sym (eqb-true m n e)))
+    by false e = sym (ne-eqb n m (λ f. eqb-false m n e (sym f)))
+
+beq-turned : (a b : Bool) → Bool·beq a b ≡ Bool·beq b a
+beq-turned true true = refl
+beq-turned true false = refl
+beq-turned false true = refl
+beq-turned false false = refl
+
+level-turned : (s : Bool) (m : ℕ) (t : Bool) (n : ℕ) → level s m t n ≡ level t n s m
+unfolding level
+level-turned s m t n = by (eqb m n) refl
+  where
+    by : (b : Bool) → eqb m n ≡ b → (b && (Bool·beq s t || eqb m 0)) ≡ level t n s m
+    by true e = ap₂ _||_ (beq-turned s t) (ap (λ (i : ℕ). eqb i 0) (eqb-true m n e)) ∙ sym (rw (sym (eqb-turned m n) ∙ e, level))
+    by false e = sym (rw (sym (eqb-turned m n) ∙ e, level))
+
+float-turned : (x y : Float) → eq x y ≡ eq y x
+unfolding eq
+float-turned nan nan = refl
+float-turned nan (inf t) = refl
+float-turned nan (fin t n d) = refl
+float-turned (inf s) nan = refl
+float-turned (inf s) (inf t) = beq-turned s t
+float-turned (inf s) (fin t n d) = refl
+float-turned (fin s m e) nan = refl
+float-turned (fin s m e) (inf t) = refl
+float-turned (fin s m e) (fin t n d) = level-turned s (m * up e * down d) t (n * up d * down e)
+
+integer-turned : (a b : ℤ) → sameInteger a b ≡ sameInteger b a
+unfolding sameInteger
+integer-turned (pos m) (pos n) = eqb-turned m n
+integer-turned (pos m) (negsuc n) = refl
+integer-turned (negsuc m) (pos n) = refl
+integer-turned (negsuc m) (negsuc n) = eqb-turned m n
+
+bytes-turned : (a b : List ℕ) → sameBytes a b ≡ sameBytes b a
+unfolding sameBytes
+bytes-turned [] [] = refl
+bytes-turned [] (b ∷ t) = refl
+bytes-turned (a ∷ s) [] = refl
+bytes-turned (a ∷ s) (b ∷ t) = ap₂ _&&_ (eqb-turned a b) (bytes-turned s t)
+
+equal-turned : (a b : Cell) → equal a b ≡ equal b a
+unfolding equal same isNull
+equal-turned null null = refl
+equal-turned null (boolean c) = refl
+equal-turned null (integer n) = refl
+equal-turned null (float x) = refl
+equal-turned null (string s) = refl
+equal-turned (boolean a) null = refl
+equal-turned (boolean a) (boolean c) = ap truth (beq-turned a c)
+equal-turned (boolean a) (integer n) = refl
+equal-turned (boolean a) (float x) = refl
+equal-turned (boolean a) (string s) = refl
+equal-turned (integer a) null = refl
+equal-turned (integer a) (boolean c) = refl
+equal-turned (integer a) (integer n) = ap truth (integer-turned a n)
+equal-turned (integer a) (float x) = refl
+equal-turned (integer a) (string s) = refl
+equal-turned (float a) null = refl
+equal-turned (float a) (boolean c) = refl
+equal-turned (float a) (integer n) = refl
+equal-turned (float a) (float x) = ap truth (float-turned a x)
+equal-turned (float a) (string s) = refl
+equal-turned (string a) null = refl
+equal-turned (string a) (boolean c) = refl
+equal-turned (string a) (integer n) = refl
+equal-turned (string a) (float x) = refl
+equal-turned (string a) (string s) = ap truth (bytes-turned a s)
+
+-- ---- tests
+
+-- a test's value, where its column holds a cell
+unfoldable testValue : List ℕ → Cell → Test → kleene.Value
+testValue text cell Other = kleene.NULL
+testValue text cell (Equals c w) = equal cell (cellOf text (valueOf w))
+testValue text cell (Is c y) = is y cell
+
+-- a constant is no column
+constant-only : (w : Row) → isConstant w ≡ true → isColumn w ≡ false
+unfolding isColumn isConstant
+constant-only w e = by (eqb (w .kind) kind.column) refl
+  where
+    by : (b : Bool) → eqb (w .kind) kind.column ≡ b → b ≡ false
+    by true f = sym e ∙ ap (λ (k : ℕ). leb kind.null k && leb k kind.string) (eqb-true (w .kind) kind.column f)
+    by false f = refl
+
+module _ (text : List ℕ) (world : World) where
+  column-cell : (t : Tree) → isColumn (leafOf t) ≡ true → cellIn text world t ≡ world .column (leafOf t .x)
+  unfolding cellIn leafOf isColumn
+  column-cell (leaf r w) e = rw (e, cellIn)
+  column-cell (unary r k y a) e = false-true e
+  column-cell (binary r k a b) e = false-true e
+  column-cell (both r a b) e = false-true e
+  column-cell (either r a b) e = false-true e
+  column-cell (negate r a) e = false-true e
+
+  constant-cell : (t : Tree) → isConstant (leafOf t) ≡ true → cellIn text world t ≡ cellOf text (valueOf (leafOf t))
+  unfolding cellIn leafOf isConstant isColumn
+  constant-cell (leaf r w) e = rw (constant-only w e, cellIn)
+  constant-cell (unary r k y a) e = false-true e
+  constant-cell (binary r k a b) e = false-true e
+  constant-cell (both r a b) e = false-true e
+  constant-cell (either r a b) e = false-true e
+  constant-cell (negate r a) e = false-true e
+
+  module _ (c : ℕ) where
+    equal-value : (a b : Tree) → tests c (equalOf (leafOf a) (leafOf b)) ≡ true →
+        equal (cellIn text world a) (cellIn text world b) ≡ testValue text (world .column c) (equalOf (leafOf a) (leafOf b))
+    unfolding equalOf tests testValue
+    equal-value a b e = by (isColumn (leafOf a) && isConstant (leafOf b)) (isColumn (leafOf b) && isConstant (leafOf a)) refl refl e
+      where
+        by : (p q : Bool) → (isColumn (leafOf a) && isConstant (leafOf b)) ≡ p → (isColumn (leafOf b) && isConstant (leafOf a)) ≡ q →
+            tests c (elim p [ true ↦ Equals (leafOf a .x) (leafOf b) | false ↦ elim q [ true ↦ Equals (leafOf b .x) (leafOf a) | false ↦ Other ] ]) ≡ true →
+            equal (cellIn text world a) (cellIn text world b)
+            ≡ testValue text (world .column c) (elim p [ true ↦ Equals (leafOf a .x) (leafOf b) | false ↦ elim q [ true ↦ Equals (leafOf b .x) (leafOf a) | false ↦ Other ] ])
+        by true q f g h =
+            ap₂ equal
+            (column-cell a (and-first (isColumn (leafOf a)) (isConstant (leafOf b)) f) ∙ ap (world .column) (sym (eqb-true c (leafOf a .x) h)))
+            (constant-cell b (and-second (isColumn (leafOf a)) (isConstant (leafOf b)) f))
+        by false true f g h =
+            equal-turned (cellIn text world a) (cellIn text world b)
+            ∙ ap₂ equal
+            (column-cell b (and-first (isColumn (leafOf b)) (isConstant (leafOf a)) g) ∙ ap (world .column) (sym (eqb-true c (leafOf b .x) h)))
+            (constant-cell a (and-second (isColumn (leafOf b)) (isConstant (leafOf a)) g))
+        by false false f g h = false-true h
+
+    is-value : (a : Tree) (y : ℕ) → tests c (isOf (leafOf a) y) ≡ true → is y (cellIn text world a) ≡ testValue text (world .column c) (isOf (leafOf a) y)
+    unfolding isOf tests testValue
+    is-value a y e = by (isColumn (leafOf a)) refl e
+      where
+        by : (p : Bool) → isColumn (leafOf a) ≡ p → tests c (elim p [ true ↦ Is (leafOf a .x) y | false ↦ Other ]) ≡ true →
+            is y (cellIn text world a) ≡ testValue text (world .column c) (elim p [ true ↦ Is (leafOf a .x) y | false ↦ Other ])
+        by true f h = ap (is y) (column-cell a f ∙ ap (world .column) (sym (eqb-true c (leafOf a .x) h)))
+        by false f h = false-true h
+
+    atom-test : (t : Tree) → tests c (testOf t) ≡ true → predicateValue text world t ≡ testValue text (world .column c) (testOf t)
+    unfolding testOf predicateValue tests
+    atom-test (leaf r w) e = false-true e
+    atom-test (unary r k y a) e = by (eqb k kind.is) e
+      where
+        by : (p : Bool) → tests c (elim p [ true ↦ isOf (leafOf a) y | false ↦ Other ]) ≡ true →
+            elim p [ true ↦ is y (cellIn text world a) | false ↦ world .other r ]
+            ≡ testValue text (world .column c) (elim p [ true ↦ isOf (leafOf a) y | false ↦ Other ])
+        by true h = is-value a y h
+        by false h = false-true h
+    atom-test (binary r k a b) e = by (eqb k kind.equal) e
+      where
+        by : (p : Bool) → tests c (elim p [ true ↦ equalOf (leafOf a) (leafOf b) | false ↦ Other ]) ≡ true →
+            elim p [ true ↦ equal (cellIn text world a) (cellIn text world b) | false ↦ world .other r ]
+            ≡ testValue text (world .column c) (elim p [ true ↦ equalOf (leafOf a) (leafOf b) | false ↦ Other ])
+        by true h = equal-value a b h
+        by false h = false-true h
+    atom-test (both r a b) e = false-true e
+    atom-test (either r a b) e = false-true e
+    atom-test (negate r a) e = false-true e
+
+    literal-test : (l : Literal) → tests c (testIn l) ≡ true → literalValue text world l ≡ testValue text (world .column c) (testIn l)
+    unfolding testIn literalValue tests
+    literal-test (literal false a) e = atom-test a e
+    literal-test (literal true a) e = false-true e
 
 module _ (text : List ℕ) (cell : Cell) where
   any-append : (vs ws : List Value) → anyMatch text cell (vs ++ ws) ≡ (anyMatch text cell vs || anyMatch text cell ws)
@@ -124,33 +301,45 @@ module _ (text : List ℕ) (cell : Cell) where
   test-matches c (Equals d w) e = equals-test d w
   test-matches c (Is d y) e = is-test d y
 
+-- ---- clauses
+
+module _ (text : List ℕ) (world : World) where
   -- every literal tests column c
-  all-match : (c : ℕ) (ls : List Literal) → allTest c (map testIn ls) ≡ true → isTrue (clauseValue text cell ls) ≡ anyMatch text cell (valuesIn (map testIn ls))
+  all-match : (c : ℕ) (ls : List Literal) → allTest c (map testIn ls) ≡ true →
+      isTrue (clauseValue text world ls) ≡ anyMatch text (world .column c) (valuesIn (map testIn ls))
   unfolding allTest clauseValue valuesIn anyMatch
   all-match c [] e = refl
   all-match c (l ∷ ls) e =
-      true-or (testValue text cell (testIn l)) (clauseValue text cell ls)
-      ∙ ap (λ (b : Bool). b || isTrue (clauseValue text cell ls)) (test-matches c (testIn l) (and-first (tests c (testIn l)) (allTest c (map testIn ls)) e))
-      ∙ ap (λ (b : Bool). anyMatch text cell (valueIn (testIn l)) || b) (all-match c ls (and-second (tests c (testIn l)) (allTest c (map testIn ls)) e))
-      ∙ sym (any-append (valueIn (testIn l)) (valuesIn (map testIn ls)))
+      let this = and-first (tests c (testIn l)) (allTest c (map testIn ls)) e in
+      true-or (literalValue text world l) (clauseValue text world ls)
+      ∙ ap₂ _||_
+      (ap isTrue (literal-test text world c l this) ∙ test-matches text (world .column c) c (testIn l) this)
+      (all-match c ls (and-second (tests c (testIn l)) (allTest c (map testIn ls)) e))
+      ∙ sym (any-append text (world .column c) (valueIn (testIn l)) (valuesIn (map testIn ls)))
 
-  look-on : (c d : ℕ) (ls : List Literal) (vs : List Value) → lookOn d (map testIn ls) ≡ on c vs → isTrue (clauseValue text cell ls) ≡ anyMatch text cell vs
+  look-on : (c d : ℕ) (ls : List Literal) (vs : List Value) → lookOn d (map testIn ls) ≡ on c vs →
+      isTrue (clauseValue text world ls) ≡ anyMatch text (world .column c) vs
   unfolding lookOn
   look-on c d ls vs e = by (allTest d (map testIn ls)) refl e
     where
       by : (b : Bool) → allTest d (map testIn ls) ≡ b → elim b [ true ↦ on d (valuesIn (map testIn ls)) | false ↦ none ] ≡ on c vs →
-          isTrue (clauseValue text cell ls) ≡ anyMatch text cell vs
-      by true f g = let same : valuesIn (map testIn ls) ≡ vs = cc in all-match d ls f ∙ ap (anyMatch text cell) same
+          isTrue (clauseValue text world ls) ≡ anyMatch text (world .column c) vs
+      by true f g =
+          let same : valuesIn (map testIn ls) ≡ vs = cc in
+          let here : d ≡ c = cc in
+          all-match d ls f ∙ ap₂ (λ (i : ℕ) (ws : List Value). anyMatch text (world .column i) ws) here same
       by false f g = let z : _≡_ {A = ℕ} 0 1 = cc in absurd (omega arith)
 
-  look-from : (c : ℕ) (t : Test) (ls : List Literal) (vs : List Value) → lookFrom t (map testIn ls) ≡ on c vs → isTrue (clauseValue text cell ls) ≡ anyMatch text cell vs
+  look-from : (c : ℕ) (t : Test) (ls : List Literal) (vs : List Value) → lookFrom t (map testIn ls) ≡ on c vs →
+      isTrue (clauseValue text world ls) ≡ anyMatch text (world .column c) vs
   unfolding lookFrom
   look-from c Other ls vs e = let z : _≡_ {A = ℕ} 0 1 = cc in absurd (omega arith)
   look-from c (Equals d w) ls vs e = look-on c d ls vs e
   look-from c (Is d y) ls vs e = look-on c d ls vs e
 
   -- the theorem
-  pub lookup-matches : (c : ℕ) (ls : List Literal) (vs : List Value) → lookOf ls ≡ on c vs → isTrue (clauseValue text cell ls) ≡ anyMatch text cell vs
+  pub lookup-matches : (c : ℕ) (ls : List Literal) (vs : List Value) → lookOf ls ≡ on c vs →
+      isTrue (clauseValue text world ls) ≡ anyMatch text (world .column c) vs
   unfolding lookOf lookIn
   lookup-matches c [] vs e = let z : _≡_ {A = ℕ} 0 1 = cc in absurd (omega arith)
   lookup-matches c (l ∷ ls) vs e = look-from c (testIn l) (l ∷ ls) vs e

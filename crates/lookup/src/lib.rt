@@ -22,7 +22,7 @@ ghost use Rattle.tokens.specs.Limits.{rowsMax};
 ghost use Rattle.predicate.specs.Tree.{treeAt, Sound};
 ghost use Rattle.predicate.specs.Read.{readRows};
 ghost use Rattle.normal.specs.Clause.{clausesMax, literalsMax, clauses as clausesOf, total};
-ghost use Rattle.lookup.specs.Answer.{asked as askedOf, askedIn, foundOf, LooksUp};
+ghost use Rattle.lookup.specs.Answer.{asked as askedBy, askedIn, foundOf, LooksUp};
 ghost use Rattle.lookup.specs.Find.{gatheredOf, answerOf, answered as answeredOf};
 
 // What is asked of a clause: the column and how many values there are, or a refusal and its place.
@@ -98,7 +98,7 @@ fn asked_at(rows: &[u64], last: usize, clause: usize, n: usize) -> Answer
 
 // A clause of a predicate.
 fn asked(text: &[u8], rows: &[u64], clause: usize, n: usize) -> Answer
-    ensures { λ a. ⌜ a ≡ answerOf n (askedOf (readRows (now (text .entry)) (now (rows .entry))) clause) ⌝ }
+    ensures { λ a. ⌜ a ≡ answerOf n (askedBy (readRows (now (text .entry)) (now (rows .entry))) clause) ⌝ }
 {
     let v = predicate::check(text, rows);
     match v {
@@ -123,7 +123,7 @@ pub fn lookup(text: &[u8], rows: &[u64], clause: usize) -> Looked
 
 // One of the values of a lookup.
 pub fn value_at(text: &[u8], rows: &[u64], clause: usize, n: usize) -> Found
-    ensures { λ v. ⌜ v ≡ foundOf (askedOf (readRows (now (text .entry)) (now (rows .entry))) clause) n ⌝ }
+    ensures { λ v. ⌜ v ≡ foundOf (askedBy (readRows (now (text .entry)) (now (rows .entry))) clause) n ⌝ }
 {
     let a = asked(text, rows, clause, n);
     match a {

@@ -16,7 +16,7 @@ literalsMax = 8_192
 pub data Literal : Type 0 where
   literal : Bool → Tree → Literal
 
--- each clause of the first list joined with each of the second
+-- each clause of the first list joined with each of the second in turn: its literals, then the other's
 abbrev pub cross : List (List Literal) → List (List Literal) → List (List Literal)
 cross [] ys = []
 cross (x ∷ xs) ys = map (λ (y : List Literal). x ++ y) ys ++ cross xs ys

@@ -81,7 +81,7 @@ unfoldable pub allOf : (ℕ → Value) → List (List ℕ) → Value
 allOf ρ [] = TRUE
 allOf ρ (c ∷ cs) = AND (anyOf ρ c) (allOf ρ cs)
 
--- every literal's row is one of which P says something
+-- P holds of every literal's row
 unfoldable pub EachIn : (ℕ → Type 0) → List ℕ → Type 0
 EachIn P [] = Unit {0}
 EachIn P (n ∷ c) = P (rowOf n) × EachIn P c

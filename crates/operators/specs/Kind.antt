@@ -1,7 +1,7 @@
--- The kinds of syntax rows (FORMAT §5). A number of a row that no comment names is 0.
+-- The kinds of syntax rows (FORMAT §5). A comment holds up to the next one, and a number of a row that it does not name is 0.
 use Prim.Native.Nat.{ℕ}
 
--- leaves: first `*`
+-- leaves: first `*`, where x is 0
 abbrev pub all : ℕ
 all = 1
 
@@ -13,6 +13,7 @@ integer = 2
 abbrev pub float : ℕ
 float = 3
 
+-- x is 0
 abbrev pub infinity : ℕ
 infinity = 4
 
@@ -27,6 +28,7 @@ string = 6
 abbrev pub boolean : ℕ
 boolean = 7
 
+-- x is 0
 abbrev pub null : ℕ
 null = 8
 
@@ -49,14 +51,15 @@ identity = 12
 abbrev pub negate : ℕ
 negate = 13
 
--- NOT
+-- NOT: x is its row
 abbrev pub negation : ℕ
 negation = 14
 
+-- x is its row
 abbrev pub factorial : ℕ
 factorial = 15
 
--- y is 0 for NULL, 1 for NAN
+-- x is its row; y is 0 for NULL, 1 for NAN
 abbrev pub is : ℕ
 is = 16
 

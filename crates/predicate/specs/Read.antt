@@ -1,6 +1,6 @@
 -- Which rows are a predicate (FORMAT §6), and why others are refused (FORMAT §11).
 use Prim.Native.Nat.{ℕ, zero, suc, _+_, _-_}
-use mathlib.Core.Bool.{Bool, true, false, _||_}
+use mathlib.Core.Bool.{true, false, _||_}
 use mathlib.Core.List.{List, [], _∷_, map}
 use lib.ListN.{length}
 use lib.Dec.{ltb}
@@ -43,7 +43,7 @@ unfoldable pub readFrom : List ℕ → List ℕ → ℕ → ℕ → List (Subtre
 readFrom text l zero r stack = ended r stack
 readFrom text l (suc left) r stack = andThen r (stepAt text l r stack) (readFrom text l left (r + 1))
 
--- a text or rows that are too long; then a length that is no multiple of a row's; then each row in turn
+-- a text or rows that are too long; then a length that is no multiple of a row's; then no rows (by `ended`), or each row in turn
 unfoldable pub readRows : List ℕ → List ℕ → Reading
 readRows text l =
     elim (ltb textMax (length text) || ltb rowsMax (count l)) [

@@ -1,6 +1,6 @@
 -- What the parts of the row check's code promise each other. No public promise names this file.
 use Prim.Native.Nat.{ℕ, _+_, _<_}
-use mathlib.Core.Bool.{Bool, true, false, _&&_}
+use mathlib.Core.Bool.{Bool, true, _&&_}
 use mathlib.Core.List.{List}
 use lib.Dec.{eqb}
 use Rattle.rows.specs.Layout.{count, rowAt}

@@ -11,7 +11,9 @@ use Rattle.predicate.specs.declared.Shape.the-variants as shape
 use Rattle.predicate.specs.declared.Arity.{Arity}
 use Rattle.predicate.specs.declared.Arity.the-variants as arity
 
--- AND, OR and NOT; and what atoms are made of: constants and columns, with their row; operators, with their kind and what else their row says
+-- AND (both), OR (either) and NOT (negate: kind 9, and not the operator Negate of kind 20), over their operands; and what atoms are made of: a constant or a
+-- column with its row's numbers (leaf), an operator over one operand with its kind and y (unary), and one over two with its kind (binary). The first number
+-- is the row's own
 pub data Tree : Type 0 where
   leaf : ℕ → Row → Tree
   unary : ℕ → ℕ → ℕ → Tree → Tree
@@ -55,6 +57,8 @@ nodeOf (shape.Two x y) r w ts = binary r (w .kind) (getD ts 0 (leaf r w)) (getD 
 nodeOf (shape.Both x y) r w ts = both r (getD ts 0 (leaf r w)) (getD ts 1 (leaf r w))
 nodeOf (shape.Either x y) r w ts = either r (getD ts 0 (leaf r w)) (getD ts 1 (leaf r w))
 nodeOf (shape.Not x) r w ts = negate r (getD ts 0 (leaf r w))
+
+-- No entry's promise names what follows, the tree that a row's operands lead to: which rows are a predicate, Read says.
 
 -- the tree at row r of a table, followed so deep
 unfoldable pub treeTo : List ℕ → ℕ → ℕ → Tree

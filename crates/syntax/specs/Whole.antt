@@ -12,7 +12,7 @@ use Rattle.rows.specs.declared.Row.{Row}
 use Rattle.operators.specs.Kind as row
 use Rattle.grammar.specs.Tree.{Tree, leaf, unary, binary, call, Trees, none, more}
 
--- how many operands a kind has: a leaf none, a function as many as y says
+-- how many operands a kind has: a leaf none, a function as many as y says. Kinds are not judged here: 0 counts as a leaf, 32 and above as over two
 pub data Arity : Type 0 where
   nullary one two named : Arity
 

@@ -23,50 +23,50 @@ abbrev pub AND : ℕ
 AND = 5
 
 abbrev pub equal : ℕ
-equal = 6
+equal = 6  -- =
 
 abbrev pub notEqual : ℕ
-notEqual = 7
+notEqual = 7  -- !=
 
 abbrev pub lessOrGreaterThan : ℕ
-lessOrGreaterThan = 8
+lessOrGreaterThan = 8  -- <>
 
 abbrev pub LIKE : ℕ
 LIKE = 9
 
 abbrev pub greaterThan : ℕ
-greaterThan = 10
+greaterThan = 10  -- >
 
 abbrev pub greaterThanOrEqual : ℕ
-greaterThanOrEqual = 11
+greaterThanOrEqual = 11  -- >=
 
 abbrev pub lessThan : ℕ
-lessThan = 12
+lessThan = 12  -- <
 
 abbrev pub lessThanOrEqual : ℕ
-lessThanOrEqual = 13
+lessThanOrEqual = 13  -- <=
 
 abbrev pub plus : ℕ
-plus = 14
+plus = 14  -- +
 
 abbrev pub minus : ℕ
-minus = 15
+minus = 15  -- -
 
 abbrev pub asterisk : ℕ
-asterisk = 16
+asterisk = 16  -- *
 
 abbrev pub slash : ℕ
-slash = 17
+slash = 17  -- /
 
 abbrev pub percent : ℕ
-percent = 18
+percent = 18  -- %
 
 abbrev pub caret : ℕ
-caret = 19
+caret = 19  -- ^
 
 -- what else expressions use
 abbrev pub exclamation : ℕ
-exclamation = 20
+exclamation = 20  -- !
 
 abbrev pub IS : ℕ
 IS = 21
@@ -90,19 +90,19 @@ abbrev pub INFINITY : ℕ
 INFINITY = 27
 
 abbrev pub openParen : ℕ
-openParen = 28
+openParen = 28  -- (
 
 abbrev pub closeParen : ℕ
-closeParen = 29
+closeParen = 29  -- )
 
 abbrev pub comma : ℕ
-comma = 30
+comma = 30  -- ,
 
 abbrev pub period : ℕ
-period = 31
+period = 31  -- .
 
 abbrev pub semicolon : ℕ
-semicolon = 32
+semicolon = 32  -- ;
 
 -- the last kind
 abbrev pub last : ℕ

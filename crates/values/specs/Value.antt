@@ -18,7 +18,7 @@ unfoldable pub patternOf : ℤ → ℕ
 patternOf (pos n) = n
 patternOf (negsuc n) = 2 ^ 64 - 1 - n
 
--- by kind: a constant's
+-- the value of a constant of kind k; any other kind, which no constant has, counts as Null
 unfoldable pub valueBy : ℕ → ℕ → ℕ → Value
 valueBy k x y =
     elim (eqb k kind.boolean) [

@@ -1,11 +1,9 @@
 -- What the definitions say of an input, as numbers: 0 and the answer's numbers, or a refusal's number and its place.
 use Prim.Native.Nat.{ℕ, _+_}
-use mathlib.Core.List.{List, [], _∷_, _++_, map}
+use mathlib.Core.List.{List, [], _∷_, _++_}
 use mathlib.Core.Bool.{false}
-use lib.ListN.{length}
 use Rattle.tokens.specs.Limits.{rowsMax}
 use Rattle.tokens.specs.Refusal.{numberOf}
-use Rattle.rows.specs.declared.Row.{Row}
 use Rattle.rows.specs.Layout.{numbers}
 use Rattle.grammar.specs.Tree.{rowsOf}
 use Rattle.grammar.specs.Rules as rules
