@@ -26,7 +26,7 @@ AND-assoc NULL NULL TRUE = refl
 AND-assoc NULL TRUE w = refl
 AND-assoc TRUE v w = refl
 
-OR-assoc : (u v w : Value) → OR (OR u v) w ≡ OR u (OR v w)
+pub OR-assoc : (u v w : Value) → OR (OR u v) w ≡ OR u (OR v w)
 OR-assoc FALSE v w = refl
 OR-assoc NULL FALSE w = refl
 OR-assoc NULL NULL FALSE = refl
@@ -40,7 +40,7 @@ OR-TRUE FALSE = refl
 OR-TRUE NULL = refl
 OR-TRUE TRUE = refl
 
-OR-FALSE : (u : Value) → OR u FALSE ≡ u
+pub OR-FALSE : (u : Value) → OR u FALSE ≡ u
 OR-FALSE FALSE = refl
 OR-FALSE NULL = refl
 OR-FALSE TRUE = refl
@@ -111,7 +111,7 @@ codes cs = map (map code) cs
 -- ---- the value
 
 module _ (ρ : ℕ → Value) where
-  any-append : (a b : List Literal) → anyOf ρ (map code (a ++ b)) ≡ OR (anyOf ρ (map code a)) (anyOf ρ (map code b))
+  pub any-append : (a b : List Literal) → anyOf ρ (map code (a ++ b)) ≡ OR (anyOf ρ (map code a)) (anyOf ρ (map code b))
   unfolding anyOf
   any-append [] b = refl
   any-append (x ∷ a) b =
