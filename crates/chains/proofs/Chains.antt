@@ -8,7 +8,7 @@ use native.Mathlib.Omega.{arith}
 use native.Mathlib.Decide.{decLt}
 use lib.ListN.{length, getD, set, length-set}
 use lib.Seq.{getD-set-same, getD-set-other}
-use Rattle.chains.specs.Chain.{chainTo, chainOf, freeOf, Cells, Heads, Grown, Put, Clear, Copied}
+use Rattle.chains.specs.Chain.{chainTo, chainOf, freeOf, Cells, Heads, Put, Clear, Copied}
 
 -- ---- chains
 

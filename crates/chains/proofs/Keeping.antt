@@ -7,7 +7,6 @@ use mathlib.Core.List.{List}
 use native.Mathlib.Omega.{arith}
 use lib.ListN.{length}
 use Rattle.chains.specs.Chain.{Clear, Copied, Keeps, Kept, Agains, Again}
-use Rattle.chains.specs.declared.Run.{Run}
 
 module _ {o : Bool} (d : List ℕ) (first spare each : ℕ) where
   pub kept-none : o ≡ true → Kept o d d first spare each spare

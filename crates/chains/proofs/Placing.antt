@@ -3,15 +3,15 @@
 -- `right-asks`, `again-asks`) and leave the left one (`goes-left`).
 -- Assumes nothing.
 use Prim.Native.Nat.{ℕ, _+_, _*_, _-_, _<_, _≤_}
-use mathlib.Core.Path.{_≡_, refl, sym, ap, ap₂, _∙_, subst}
+use mathlib.Core.Path.{_≡_, refl, sym, _∙_, subst}
 use mathlib.Core.Bool.{Bool, true, false}
-use mathlib.Core.List.{List, [], _∷_, _++_}
+use mathlib.Core.List.{List, [], _∷_}
 use native.Mathlib.Omega.{arith}
 use lib.ListN.{length}
 use Rattle.tokens.specs.Limits.{rowsMax}
 use Rattle.predicate.specs.Tree.{treeAt, Sound}
 use Rattle.predicate.proofs.Trees.{sound-below}
-use Rattle.normal.specs.Clause.{Literal, literal, bit, clauses, cross, join}
+use Rattle.normal.specs.Clause.{Literal, literal, bit, clauses, join}
 use Rattle.normal.specs.Part.{partAt}
 use Rattle.chains.specs.Chain.{Cells, Heads, Put, Keeps, Kept, Agains, Again, Fits, Stringing, Strung}
 use Rattle.normal.specs.declared.Part.{Part}

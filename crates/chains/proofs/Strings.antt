@@ -2,8 +2,7 @@
 -- kept aside while the second list is strung; and each with each (`with-..`).
 -- Assumes nothing.
 use Prim.Native.Nat.{ℕ, _+_, _*_, _-_, _<_, _≤_}
-use mathlib.Core.Path.{_≡_, refl, sym, ap, ap₂, _∙_, subst}
-use mathlib.Core.Bool.{Bool}
+use mathlib.Core.Path.{_≡_, sym, ap, ap₂, _∙_, subst}
 use mathlib.Core.List.{List, [], _∷_, _++_, map}
 use native.Mathlib.Omega.{arith}
 use native.Mathlib.Decide.{decLt}
@@ -11,7 +10,7 @@ use native.Mathlib.Nat.{le-mul-of-pos-right}
 use lib.ListN.{length, getD, length-append, length-map, List·getD-append}
 use lib.Seq.{getD-append-add}
 use Rattle.normal.specs.Clause.{Literal, code, cross, total}
-use Rattle.chains.specs.Chain.{chainOf, Cells, Heads, Holds, Grown, Put, Clear, Copied, Fits, Stringing, Strung}
+use Rattle.chains.specs.Chain.{chainOf, Cells, Holds, Put, Clear, Copied, Fits, Stringing, Strung}
 use Rattle.normal.proofs.Crossing.{get-before, before, cross-append, cross-cross, cross-one}
 use Rattle.normal.proofs.Sizes.{length-cross, total-append, total-cross}
 use Rattle.chains.proofs.Chains.{chain-step, chain-kept, put-cells}

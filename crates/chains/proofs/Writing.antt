@@ -10,8 +10,8 @@ use native.Mathlib.Numerals.{add-one}
 use lib.ListN.{length, getD, set, take, drop, length-append, length-map, length-drop, length-set}
 use lib.Seq.{sets, length-sets, take-suc, take-length, length-take-le, sets-eq, getD-set-same, getD-set-other, getD-drop, getD-append-add, ext-getD}
 use Rattle.rows.proofs.Laws.{sets-append}
-use Rattle.normal.specs.Clause.{Literal, code, cross, total, numbers, endsFrom}
-use Rattle.chains.specs.Chain.{chainOf, freeOf, Cells, Heads, Holds, Grown, Fits, Stringing, Linked, Wrote, Room, Written, Strung}
+use Rattle.normal.specs.Clause.{Literal, code, total, numbers, endsFrom}
+use Rattle.chains.specs.Chain.{chainOf, freeOf, Cells, Holds, Fits, Stringing, Linked, Wrote, Room, Written, Strung}
 use Rattle.normal.proofs.Crossing.{cross-end}
 use Rattle.normal.proofs.Sizes.{total-append}
 use Rattle.chains.proofs.Chains.{chain-step, chain-none}

@@ -1,5 +1,6 @@
 -- Clauses as chains of cells, as listing strings them. Cell h has its literal at place 2 h and the number of the cell after it at place 2 h + 1; cell 0
--- is none, and its first place has the number of the next free cell. No public promise names this file.
+-- is none, and its first place has the number of the next free cell. No entry's promise names this file. There are at most 8,192
+-- literals, so with cell 0 no more than 8,193 cells and 16,386 places.
 use Prim.Native.Nat.{ℕ, zero, suc, _+_, _*_, _-_, _<_, _≤_}
 use mathlib.Core.Path.{_≡_}
 use mathlib.Core.Bool.{Bool, true, false}

@@ -1,10 +1,9 @@
 -- The answers of `list_many`, `list_one` and `split`: each refusal in its case (`gives-many`, `gives-short`, `one-short`, `promise-refused`), and the written
 -- lists otherwise (`gives-all`, `one-all`, `promise-listed`), which mean the predicate (`split-means`).
 -- Assumes nothing.
-use Prim.Native.Nat.{ℕ, _+_, _*_, _-_, _<_, _≤_}
+use Prim.Native.Nat.{ℕ, _+_, _*_, _<_, _≤_}
 use mathlib.Core.Path.{_≡_, refl, sym, ap, ap₂, _∙_, subst}
 use mathlib.Core.Bool.{Bool, true, false, _||_}
-use mathlib.Core.Logic.{_⊎_, inl, inr}
 use mathlib.Core.List.{List, [], _∷_, _++_}
 use native.Mathlib.Omega.{arith}
 use lib.ListN.{length, set, take, drop}

@@ -33,7 +33,7 @@ pub enum Listed {
 // The most literals for which the small table of cells does: clearing the large one costs more than most predicates.
 const FEW: usize = 256;
 
-// Writes the n clauses of row r, with cells for their t literals.
+// Writes the n clauses of row r, with cells for their t literals: two places for each, and two more for the cell that is none.
 fn list(rows: &[u64], literals: &mut [u32], ends: &mut [u32], r: usize, n: usize, t: usize)
     requires { ⌜ Sound (now rows) r × (r < rowsMax) × (n ≡ length (clauses false (treeAt (now rows) r))) × (t ≡ total (clauses false (treeAt (now rows) r))) × ((n ≤ 1024) × (t ≤ 8192)) × ((t ≤ length (now literals)) × (n ≤ length (now ends))) ⌝ }
     ensures { λ _. ⌜ Written (clauses false (treeAt (now (rows .entry)) r)) (now (literals .entry)) (now (literals .exit)) (now (ends .entry)) (now (ends .exit)) ⌝ }

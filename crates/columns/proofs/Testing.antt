@@ -16,7 +16,6 @@ use Rattle.predicate.specs.declared.Shape.the-variants as shape
 use Rattle.predicate.proofs.Shapes.{node-at}
 use Rattle.columns.specs.Lookup.{noRow, leafOf, isColumn, isConstant, equalOf, isOf, testOf}
 use Rattle.columns.specs.Gather.{isLeaf}
-use Rattle.columns.specs.declared.test.Test.{Test}
 use Rattle.columns.specs.declared.test.Test.the-variants.{Other, Equals}
 
 -- ---- rows

@@ -5,7 +5,6 @@ use values::Value;
 use values::undefined;
 use values::value_of;
 ghost use mathlib.Core.Path.{_≡_};
-ghost use mathlib.Core.Bool.{Bool};
 ghost use Prim.Native.Nat.{_+_, _≤_};
 ghost use Rattle.predicate.specs.Tree.{treeAt, Sound};
 ghost use Rattle.normal.specs.Clause.{literal};
@@ -49,7 +48,7 @@ fn looks_for(t: Test) -> Sought
     }
 }
 
-// One value more, or none.
+// One value more, or none. No clause has more than 8,192 literals, so the count never gets past 8,193.
 fn added(n: usize, column: usize, so: usize, v: Value, t: Test) -> Gathered
     requires { ⌜ so + 1 ≤ 8193 ⌝ }
     ensures { λ r. ⌜ r ≡ addedOf n column so v (valueIn t) ⌝ }

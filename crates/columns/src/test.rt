@@ -84,7 +84,7 @@ fn equal_of(v: Row, w: Row) -> Test
     }
 }
 
-// Is of an operand.
+// Is of an operand: a test where that is a column.
 fn is_of(v: Row, y: u64) -> Test
     ensures { λ r. ⌜ r ≡ isOf v y ⌝ }
 {

@@ -95,7 +95,7 @@ module _ (text ts : List ℕ) (cap : ℕ) where
             ]
       ]
 
-  -- postfix operators of at least m, while there are any
+  -- a postfix operator after the other, as long as the next one binds at m
   unfoldable pub postfixes : ℕ → ℕ → ℕ → Tree → Reading
   postfixes m = while (λ at. binds (postfixOf (kindAt ts at)) m) postfix (suc (count ts))
 
@@ -155,7 +155,7 @@ module _ (text ts : List ℕ) (cap : ℕ) where
     atom (start.Plain kind x) at used = due (at + 1) used (leaf kind x 0)
     atom start.Other at used = refuse NoAtom at
 
-    -- a prefix operator of at least m with its operand, else an atom
+    -- a prefix operator that binds at m, and its operand; or else an atom
     unfoldable pub operand : ℕ → ℕ → ℕ → Reading
     operand m at used =
         let op = prefixOf (kindAt ts at) in

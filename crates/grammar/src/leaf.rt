@@ -17,7 +17,7 @@ ghost use Rattle.tokens.specs.Token.{count, spelled};
 ghost use Rattle.numbers.specs.Number.{numberOf};
 ghost use Rattle.grammar.specs.Memory.{Gives, numeral as numeralOf, column as columnOf, Numbered, Stands};
 
-// A number.
+// A number, by its spelling: an Integer's row has its value, a Float's its token.
 pub fn numeral(text: &[u8], tokens: &[u32], rows: &mut [u64], c: Cursor) -> Step
     requires { ⌜ c .at < count (now tokens) ⌝ }
     ensures { λ r. ⌜ Gives (numeralOf (numberOf (spelled (now (text .entry)) (now (tokens .entry)) (c .at))) c (now (rows .entry))) r (now (rows .exit)) ⌝ }

@@ -1,4 +1,4 @@
-// The steps of a reading that call no reader: what `syntax` is made of.
+// The steps of a reading that call no reader: what `reader` is made of.
 //
 // specs/ has the rules of reading as definitions; docs/FORMAT.md has them in words.
 pub mod leaf;

@@ -32,13 +32,10 @@ use Rattle.lookup.specs.Find.{Counted, Ready, answerOf, answered}
 use Rattle.columns.specs.declared.test.Test.{Test}
 use Rattle.values.specs.declared.Value.{Value}
 use Rattle.values.specs.declared.Value.the-variants as value
-use Rattle.columns.specs.declared.gather.Gathered.{Gathered}
 use Rattle.columns.specs.declared.gather.Gathered.the-variants as gathered
-use Rattle.lookup.specs.declared.Answer.{Answer}
 use Rattle.lookup.specs.declared.Answer.the-variants as answer
 use Rattle.lookup.specs.declared.Looked.{Looked}
 use Rattle.lookup.specs.declared.Looked.the-variants as looked
-use Rattle.lookup.specs.declared.Found.{Found}
 use Rattle.lookup.specs.declared.Found.the-variants as found
 use Rattle.columns.proofs.Gathering.{seen, gather-look}
 use Rattle.lookup.proofs.Matching.{lookup-matches}

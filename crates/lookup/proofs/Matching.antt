@@ -16,7 +16,7 @@ use Rattle.normal.specs.Kleene as kleene
 use Rattle.normal.specs.Clause.{Literal, literal}
 use Rattle.values.specs.Value.{valueOf, undefined}
 use Rattle.lookup.specs.Cell.{Cell, null, boolean, integer, float, string, cellOf, isNull, isNaN, sameInteger, sameBytes, same, truth, isTrue, equal, is, matches}
-use Rattle.columns.specs.Lookup.{noRow, leafOf, isColumn, isConstant, equalOf, isOf, testOf, on, none, testIn, tests, allTest, valueIn, valuesIn, lookOn, lookFrom, lookIn, lookOf}
+use Rattle.columns.specs.Lookup.{leafOf, isColumn, isConstant, equalOf, isOf, testOf, on, none, testIn, tests, allTest, valueIn, valuesIn, lookOn, lookFrom, lookIn, lookOf}
 use Rattle.lookup.specs.Meaning.{World, cellIn, predicateValue, literalValue, clauseValue, anyMatch}
 use Rattle.rows.specs.declared.Row.{Row}
 use Rattle.columns.specs.declared.test.Test.{Test}

@@ -1,4 +1,4 @@
--- One clause of a list that is two lists joined: which clause of each it is (`pick-append`, `pick-cross`), and what that says of the rows that `visit` goes
+-- One clause of a list that is two lists joined: which clause of each it is (`pick-left`, `pick-right`, `pick-cross`), and what that says of the rows that `visit` goes
 -- down to.
 -- Assumes nothing.
 use mathlib.Core.Path.{_≡_, refl, sym, ap, ap₂, subst, _∙_}

@@ -52,7 +52,7 @@ sameBytes [] (b ∷ t) = false
 sameBytes (a ∷ s) [] = false
 sameBytes (a ∷ s) (b ∷ t) = eqb a b && sameBytes s t
 
--- the kinds are the same, and the values equal: floats by their own comparison, strings by their bytes (NULL is decided by `equal`)
+-- one kind, and one value in it: floats are compared as floats are, strings byte by byte (NULL is decided by `equal`)
 unfoldable pub same : Cell → Cell → Bool
 same null b = false
 same (boolean a) b = elim b [ null ↦ false | boolean c ↦ Bool·beq a c | integer n ↦ false | float x ↦ false | string s ↦ false ]

@@ -55,7 +55,7 @@ fn gathered_with(rows: &[u64], table: &mut [u16], last: usize, clause: usize, n:
     visit(rows, table, last, false, clause, n, Gathered::Nothing)
 }
 
-// The same, with a table that is large enough.
+// The same, with a table that is large enough: two places for each row.
 fn gathered(rows: &[u64], last: usize, clause: usize, n: usize) -> Gathered
     requires { ⌜ Sound (now rows) last × (last < rowsMax) × (length (clausesOf false (treeAt (now rows) last)) ≤ clausesMax) × (total (clausesOf false (treeAt (now rows) last)) ≤ literalsMax) × (clause < length (clausesOf false (treeAt (now rows) last))) ⌝ }
     ensures { λ g. ⌜ g ≡ gatheredOf (now (rows .entry)) last false clause n Gathered.Nothing ⌝ }

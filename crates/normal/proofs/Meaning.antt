@@ -1,17 +1,17 @@
 -- The clause list means the predicate. Its clauses, as numbers, have the tree's value in every choice of values (`split-value`), and every literal is one of
 -- the tree's atoms or one negated (`split-atoms`); and what a caller reads back from the lists is these clauses (`read-back`).
 -- Assumes nothing.
-use Prim.Native.Nat.{ℕ, _+_, _*_, _-_, _/_, _%_}
+use Prim.Native.Nat.{ℕ, _+_, _*_, _-_, _%_}
 use mathlib.Core.Path.{_≡_, refl, sym, ap, ap₂, _∙_, subst}
 use mathlib.Core.Bool.{Bool, true, false, not}
-use mathlib.Core.Logic.{_⊎_, inl, inr}
+use mathlib.Core.Logic.{inl, inr}
 use mathlib.Core.List.{List, [], _∷_, _++_, map, append-assoc}
 use native.Mathlib.Omega.{arith}
 use lib.ListN.{length, take, drop, length-append, length-map}
 use lib.Dec.{eqb}
 use lib.Seq.{take-at, drop-at}
 use Rattle.predicate.specs.Tree.{Tree, leaf, unary, binary, both, either, negate, rootOf}
-use Rattle.normal.specs.Clause.{Literal, literal, cross, join, clauses, bit, code, numbers, endsFrom}
+use Rattle.normal.specs.Clause.{Literal, literal, cross, join, clauses, code, numbers, endsFrom}
 use Rattle.normal.specs.Kleene.{Value, FALSE, NULL, TRUE, AND, OR, NOT, signed, value, Atom, readBack, rowOf, negated, anyOf, allOf, EachIn, Each, Means}
 use Rattle.normal.proofs.Crossing.{before}
 

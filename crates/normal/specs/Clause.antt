@@ -56,7 +56,7 @@ abbrev pub numbers : List (List Literal) → List ℕ
 numbers [] = []
 numbers (c ∷ cs) = map code c ++ numbers cs
 
--- for each clause the end of its literals, where the first clause begins at place `at`
+-- the place where each clause's literals end, where the first clause begins at place `at`
 abbrev pub endsFrom : ℕ → List (List Literal) → List ℕ
 endsFrom at [] = []
 endsFrom at (c ∷ cs) = (at + length c) ∷ endsFrom (at + length c) cs

@@ -43,7 +43,7 @@ unfoldable pub pastSign : List ℕ → List ℕ
 pastSign [] = []
 pastSign (b ∷ s) = elim (eqb b 43 || eqb b 45) [ true ↦ s | false ↦ b ∷ s ]
 
--- nothing, or `e` or `E`, an optional sign and at least one digit, and nothing else
+-- nothing; or `e` or `E`, perhaps a sign, and then digits up to the end, of which there is one at least
 unfoldable pub exponent : List ℕ → Bool
 exponent [] = true
 exponent (b ∷ s) = (eqb b 101 || eqb b 69) && digits (pastSign s)

@@ -49,7 +49,7 @@ infixTable =
 unfoldable pub infixOf : ℕ → Operator
 infixOf k = among k no infixTable
 
--- the minimum at which the right side of an infix operator is read: one more than its precedence, but for `^` its own
+-- the minimum for what stands to the right of an infix operator: one more than its precedence, but for `^` its own
 unfoldable pub rightOf : ℕ → ℕ
 rightOf k = elim (eqb k kind.caret) [ true ↦ infixOf k .precedence | false ↦ infixOf k .precedence + 1 ]
 

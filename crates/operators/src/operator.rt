@@ -57,7 +57,7 @@ pub fn precedence_of(k: u32) -> u32
     }
 }
 
-// The minimum at which the right side of an infix operator is read: one more than its precedence, but for `^` its own.
+// The minimum for what stands to the right of an infix operator: one more than its precedence, but for `^` its own.
 pub fn right_of(k: u32) -> u32
     ensures { λ r. ⌜ r ≡ rightOf k ⌝ }
 {
@@ -105,7 +105,7 @@ pub fn prefix_of(k: u32) -> u32
     }
 }
 
-// Its row.
+// The row of a prefix operator, and 0 for any other kind.
 pub fn prefix_row_of(k: u32) -> u64
     ensures { λ r. ⌜ r ≡ prefixOf k .row ⌝ }
 {

@@ -1,26 +1,23 @@
--- What accepted rows are. Every row is good (`Accepted`), the tree is the one at the last row, and its rows in post-order are the table
--- (`rows-of-tree`), so two trees never share rows (`same-rows`).
+-- What accepted rows are (`Accepted`): every row is good, and the tree is the one at the last row.
 -- Assumes nothing.
-use Prim.Native.Nat.{ℕ, zero, suc, _+_, _*_, _-_, _/_, _%_, _<_, _≤_}
-use mathlib.Core.Path.{_≡_, refl, sym, ap, ap₂, _∙_, subst}
-use mathlib.Core.Bool.{Bool, true, false, _||_, _&&_}
-use mathlib.Core.List.{List, [], _∷_, _++_}
+use Prim.Native.Nat.{ℕ, zero, suc, _+_, _*_, _-_, _%_, _<_, _≤_}
+use mathlib.Core.Path.{_≡_, refl, sym, ap, _∙_, subst}
+use mathlib.Core.Bool.{Bool, true, false, _||_}
+use mathlib.Core.List.{List, [], _∷_}
 use native.Mathlib.Decide.{ℕ-discrete}
 use native.Mathlib.Nat.{div-add-mod'}
 use native.Mathlib.Omega.{arith}
 use lib.ListN.{length}
-use lib.Dec.{ltb, eqb}
+use lib.Dec.{ltb}
 use borrow.Author.Tests.{ltb-false, eqb-true}
 use Rattle.tokens.specs.Limits.{textMax, rowsMax}
 use Rattle.tokens.specs.declared.refusal.Refusal.{Refusal}
-use Rattle.tokens.specs.declared.refusal.Refusal.the-variants.{TooLong, BadTree}
 use Rattle.rows.specs.Layout.{width, count, onlyWhole}
-use Rattle.rows.specs.Whole.{Subtree, Next, bad, on}
+use Rattle.rows.specs.Whole.{Subtree, Next}
 use Rattle.predicate.specs.Row.{shapeAt, arityOf}
-use Rattle.predicate.specs.Tree.{Tree, treeAt, firstAt, tableOf, Falls, Sound}
-use Rattle.predicate.specs.Read.{Reading, one, refused, stepAt, ended, andThen, readFrom, readRows, checkedOf}
+use Rattle.predicate.specs.Tree.{Tree, treeAt, firstAt, Falls, Sound}
+use Rattle.predicate.specs.Read.{Reading, one, refused, ended, andThen, readFrom, readRows, checkedOf}
 use Rattle.predicate.specs.Standing.{Below, goodAt}
-use Rattle.predicate.specs.declared.Checked.{Checked}
 use Rattle.predicate.specs.declared.Checked.the-variants.{Good, Refused}
 use Rattle.predicate.proofs.Stacks.{Tiles, step-is}
 use Rattle.predicate.proofs.Reading.{by-tests}

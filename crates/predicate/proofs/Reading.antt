@@ -2,7 +2,7 @@
 -- ends it (`stops`), and after the last row there is no row (`ends-none`), one root (`ends-one`) or several (`ends-many`). Before the first row
 -- stand the tests of the lengths (`long-text`, `long-rows`, `ragged`, `in-turn`).
 -- Assumes nothing.
-use Prim.Native.Nat.{ℕ, zero, suc, _+_, _-_, _<_, _≤_}
+use Prim.Native.Nat.{ℕ, suc, _+_, _-_, _<_, _≤_}
 use mathlib.Core.Path.{_≡_, refl, sym, ap, ap₂, _∙_}
 use mathlib.Core.Bool.{Bool, true, false, _||_}
 use mathlib.Core.List.{List, [], _∷_}
@@ -16,9 +16,8 @@ use Rattle.rows.specs.Layout.{count, onlyWhole}
 use Rattle.rows.specs.Whole.{Subtree, Next, bad, on}
 use Rattle.predicate.specs.Row.{shapeAt, arityOf}
 use Rattle.predicate.specs.Tree.{Tree, treeAt, firstAt, Falls, Sound}
-use Rattle.predicate.specs.Read.{Reading, one, refused, stepAt, ended, andThen, readFrom, readRows, checkedOf}
+use Rattle.predicate.specs.Read.{one, refused, stepAt, ended, andThen, readFrom, readRows, checkedOf}
 use Rattle.predicate.specs.Standing.{Below, goodAt}
-use Rattle.predicate.specs.declared.Checked.{Checked}
 use Rattle.predicate.specs.declared.Checked.the-variants.{Good, Refused}
 use Rattle.predicate.proofs.Stacks.{Tiles, step-is}
 

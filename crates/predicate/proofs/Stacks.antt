@@ -1,24 +1,24 @@
--- Rows read in order. The stack of the subtrees before row r holds the trees at their roots, each directly before the next (`Tiles`); a row that
--- the check's own test takes is read, and the stack has its tree (`step-on`); a row that it does not take is bad (`step-off`).
+-- Rows read in order. The stack of the subtrees before row r holds the trees at their roots, each directly before the next (`Tiles`); and a row
+-- is read, and the stack has its tree, exactly if the check's own test takes it (`step-is`).
 -- Assumes nothing.
-use Prim.Native.Nat.{ℕ, zero, suc, _+_, _<_, _≤_}
+use Prim.Native.Nat.{ℕ, _+_, _<_, _≤_}
 use mathlib.Core.Path.{_≡_, refl, sym, ap, ap₂, _∙_, subst}
 use mathlib.Core.Bool.{Bool, true, false, _&&_}
 use mathlib.Core.List.{List, [], _∷_, map}
 use native.Mathlib.Decide.{ℕ-discrete}
 use native.Mathlib.Omega.{arith}
 use lib.Dec.{eqb}
-use borrow.Author.Tests.{eqb-true, eqb-false}
-use Rattle.rows.specs.Layout.{rowAt, count}
+use borrow.Author.Tests.{eqb-true}
+use Rattle.rows.specs.Layout.{rowAt}
 use Rattle.rows.proofs.Standing.{took, missed}
-use Rattle.rows.specs.Whole.{Subtree, Operand, at, Operands, off, found, ends, before, directlyBefore, Next, bad, on, push}
+use Rattle.rows.specs.Whole.{Subtree, at, off, found, before, directlyBefore, bad, on, push}
 use Rattle.predicate.specs.Row.{classOf, allowedOf, shapeAt, arityOf, operandsOf}
 use Rattle.predicate.specs.Tree.{Tree, nodeOf, treeAt, firstAt, Falls, Sound}
 use Rattle.predicate.specs.Read.{stepAt}
 use Rattle.predicate.specs.Standing.{Below, standsAt, goodAt}
 use Rattle.predicate.specs.declared.Arity.{Arity}
 use Rattle.predicate.specs.declared.Arity.the-variants as arity
-use Rattle.predicate.proofs.Trees.{sound-below, tree-step, firstBy, first-at, first-le}
+use Rattle.predicate.proofs.Trees.{tree-step, firstBy, first-at, first-le}
 
 -- the stack before row `next`: each subtree is the one at its root, and the roots stand directly before the next subtree or row
 abbrev pub Tiles : List ℕ → ℕ → List (Subtree Tree) → Type 0

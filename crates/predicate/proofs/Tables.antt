@@ -1,8 +1,8 @@
 -- Accepted rows are their tree's rows in post-order (`rows-of-tree`), so two trees never share rows (`same-rows`). The tree at a good row spells the part
--- of the table from its first row to that row (`spelled-at`), since each node spells what its row says (`node-rows`).
+-- of the table from its first row to that row (`spelled-under`), since each node spells what its row says (`node-rows`).
 -- Assumes nothing.
 use Prim.Native.Nat.{ℕ, zero, suc, _+_, _-_, _<_, _≤_}
-use mathlib.Core.Path.{_≡_, refl, sym, ap, ap₂, _∙_, subst}
+use mathlib.Core.Path.{_≡_, refl, sym, ap, ap₂, _∙_}
 use mathlib.Core.Bool.{Bool, true, false, _&&_, _||_}
 use mathlib.Core.List.{List, [], _∷_, _++_, map}
 use native.Mathlib.Omega.{arith}

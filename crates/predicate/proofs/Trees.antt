@@ -1,15 +1,14 @@
 -- The tree at a row. It is made of the trees at the row's operands (`tree-step`), has the row for its root (`root-at`), and begins where its first
 -- operand's tree does (`first-at`), at or before its row (`first-le`).
 -- Assumes nothing.
-use Prim.Native.Nat.{ℕ, zero, suc, _+_, _<_, _≤_}
+use Prim.Native.Nat.{ℕ, zero, suc, _<_, _≤_}
 use mathlib.Core.Path.{_≡_, refl, sym, ap, ap₂, _∙_, subst}
 use mathlib.Core.List.{List, [], _∷_, map}
 use native.Mathlib.Omega.{arith}
-use lib.ListN.{getD}
-use Rattle.rows.specs.Layout.{rowAt, count}
+use Rattle.rows.specs.Layout.{rowAt}
 use Rattle.rows.specs.declared.Row.{Row}
 use Rattle.predicate.specs.Row.{shapeAt, arityOf, operandsOf}
-use Rattle.predicate.specs.Tree.{Tree, leaf, rootOf, firstOf, nodeOf, treeTo, treeAt, firstAt, Falls, Sound}
+use Rattle.predicate.specs.Tree.{Tree, rootOf, firstOf, nodeOf, treeTo, treeAt, firstAt, Falls, Sound}
 use Rattle.predicate.specs.declared.Shape.{Shape}
 use Rattle.predicate.specs.declared.Shape.the-variants as shape
 use Rattle.predicate.specs.declared.Arity.{Arity}

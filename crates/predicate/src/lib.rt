@@ -15,7 +15,7 @@ ghost use mathlib.Core.List.{[]};
 ghost use Prim.Native.Nat.{ℕ, _+_, _<_};
 ghost use lib.ListN.{length};
 ghost use lib.Dec.{leb};
-ghost use Rattle.rows.specs.Layout.{count as countOf, rowAt};
+ghost use Rattle.rows.specs.Layout.{count as countOf};
 ghost use Rattle.predicate.specs.Row.{classOf, allowedOf, shapeOf, shapeAt, arityOf};
 ghost use Rattle.predicate.specs.Tree.{firstAt, Sound};
 ghost use Rattle.predicate.specs.Standing.{Below, standsAt, goodAt};
@@ -124,7 +124,6 @@ fn allowed(text: &[u8], class: Class, x: u64, y: u64) -> bool
     }
 }
 
-// What row r is to a splitter.
 fn shape_of(class: Class, row: Row) -> Shape
     ensures { λ r. ⌜ r ≡ shapeOf class row ⌝ }
 {
@@ -146,6 +145,7 @@ fn shape_of(class: Class, row: Row) -> Shape
     }
 }
 
+// What row r is to a splitter.
 pub fn shape_at(rows: &[u64], r: usize) -> Shape
     requires { ⌜ r < countOf (now rows) ⌝ }
     ensures { λ s. ⌜ s ≡ shapeAt (now (rows .entry)) r ⌝ }
@@ -191,7 +191,7 @@ fn first_of(rows: &[u64], r: usize) -> usize
     }
 }
 
-// Do the whole subtrees of its operands stand directly before row r?
+// Do the whole subtrees of its operands stand directly before row r? An operand is held against r before one is added to it, so that no sum wraps.
 fn stands(rows: &[u64], r: usize, a: Arity) -> bool
     requires { ⌜ Below (now rows) r ⌝ }
     ensures { λ b. ⌜ b ≡ standsAt (now (rows .entry)) r a ⌝ }

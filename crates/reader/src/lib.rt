@@ -1,4 +1,4 @@
-// The reader at a minimum precedence, and the reader of atoms: each calls the other, with fewer levels left each time round. A run of openings is
+// Two readers, one of expressions from a minimum precedence on and one of atoms: each calls the other, with fewer levels left each time round. A run of openings is
 // read in a loop, so `((a))` and `- - a` take no call for each. grammar/specs/Rules has the rules; grammar/specs/Memory has what is promised here.
 //
 // `2 ^ 3 ^ 2 - 4 * 3` shows how. The whole is read at minimum 0: the atom `2`, and then infix operators, each with its right side. `^` is read

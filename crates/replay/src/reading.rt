@@ -7,7 +7,6 @@ use crate::fields::same;
 use crate::fields::words;
 use syntax::Parsed;
 use tokens::refusal;
-ghost use Prim.Native.Nat.{_≤_};
 ghost use lib.ListN.{length};
 
 const TEXT: usize = 1024;

@@ -1,10 +1,9 @@
 -- Parts of a row table: two that follow each other are one (`parts-join`), a row's numbers are its part (`row-part`), no rows are none (`part-none`),
 -- and all rows are the table (`part-all`).
 -- Assumes nothing.
-use mathlib.Core.Path.{_≡_, refl, sym, ap, ap₂, _∙_, subst}
+use mathlib.Core.Path.{_≡_, sym, ap, ap₂, _∙_}
 use mathlib.Core.List.{List, [], _∷_, _++_}
 use Prim.Native.Nat.{ℕ, suc, _+_, _*_, _-_, _≤_, _<_}
-use native.Mathlib.Nat.{add-zero}
 use native.Mathlib.Omega.{arith}
 use lib.ListN.{length, take, drop, getD}
 use lib.Seq.{slice, slice-cons, slice-empty, take-add, take-all, drop-append-le, drop-at, length-take-le}

@@ -1,5 +1,5 @@
 -- Rows in post-order (FORMAT §5 and §6): the whole subtrees of a row's operands stand directly before it, in operand order.
--- Rows are read in order over a stack of the whole subtrees so far, the last one first: each ends directly before the next begins, the last
+-- Reading goes from row to row and keeps a stack of what is complete, the last subtree first: each ends directly before the next begins, the last
 -- one directly before the row that is read. What a row makes of its operands, a tree of some type T, is each family's own.
 use Prim.Native.Nat.{ℕ, _+_}
 use mathlib.Core.Bool.{Bool, true, false}

@@ -1,4 +1,4 @@
-// The layout that both families of rows share: how many numbers a row has, and the one function that reads a row and the one that writes one.
+// How a row of either family lies in its table: how many numbers it has, and the one function that reads a row and the one that writes one.
 // What the numbers of a row mean is each family's own.
 use tokens::limits::ROWS_MAX;
 ghost use mathlib.Core.Path.{_≡_};

@@ -1,5 +1,5 @@
--- Syntax rows read back (FORMAT §5): which operands a row names, by its kind, and what tree it makes of theirs. Rows are read in order over a
--- stack of the whole subtrees so far.
+-- Syntax rows read back (FORMAT §5): which operands a row names, by its kind, and what tree it makes of theirs. Reading goes from row to
+-- row and keeps a stack of the subtrees that are complete.
 use mathlib.Core.Path.{_≡_}
 use Prim.Native.Nat.{ℕ, zero, suc, _+_}
 use mathlib.Core.Bool.{true, false}

@@ -5,7 +5,6 @@ use grammar::step::Step;
 use tokens::refusal::Refusal;
 use tokens::table;
 use tokens::table::Checked;
-ghost use mathlib.Core.Path.{_≡_};
 ghost use Rattle.tokens.specs.Token.{checkTable};
 ghost use Rattle.grammar.specs.Rules.{levelMax};
 ghost use Rattle.grammar.specs.Memory.{Gives, whole as wholeOf};

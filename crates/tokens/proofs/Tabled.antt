@@ -13,7 +13,6 @@ use Rattle.tokens.specs.Token.{count, tokenAt, kindAt, known, fits, chec
 use Rattle.tokens.specs.declared.refusal.Refusal.the-variants.{TooLong, BadTable}
 use Rattle.tokens.specs.declared.table.Token.{Token}
 use Rattle.tokens.specs.declared.table.Span.{Span}
-use Rattle.tokens.specs.declared.table.Checked.{Checked}
 use Rattle.tokens.specs.declared.table.Checked.the-variants.{Good, Refused}
 
 module _ (ts : List ℕ) (n : ℕ) where

@@ -1,7 +1,7 @@
 -- The value of a constant is the constant: the row of the value of an allowed constant's row is that row (`constant-back`), but for the other patterns of
 -- a NaN, for which it is the one that is handed out (`nan-back`).
 -- Assumes nothing.
-use mathlib.Core.Path.{_≡_, refl, sym, ap, ap₂, _∙_}
+use mathlib.Core.Path.{_≡_, refl, sym, ap, ap₂}
 use mathlib.Core.Bool.{Bool, true, false, _&&_}
 use mathlib.Core.List.{List}
 use Prim.Native.Nat.{ℕ, zero, suc, _-_, _^_, _≤_, _<_}
@@ -9,7 +9,7 @@ use native.Mathlib.Omega.{arith}
 use borrow.Author.Tests.{eqb-true, leb-true}
 use lib.Dec.{eqb, ltb}
 use lib.IntN.{pos, negsuc}
-use lib.Ieee.{binary64, isNan, ofBits, toBits}
+use lib.Ieee.{binary64, isNan, ofBits}
 use lib.Ieee.Bits.{toBits-ofBits}
 use Rattle.rows.specs.declared.Row.{Row}
 use Rattle.predicate.specs.Kind as kind

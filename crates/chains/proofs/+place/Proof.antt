@@ -2,7 +2,7 @@
 -- Assumes nothing.
 mod Measures
 mod Place
-use Rattle.chains.proofs.+place.Proof.Measures.{μ-place, place-at, place-below}
+use Rattle.chains.proofs.+place.Proof.Measures.{μ-place, place-at}
 use Rattle.chains.proofs.+place.Proof.Place.{calls, place-Inv-loop, place-μ-loop, place-loop-holds, place-part-at-requires, place-enum-known-v, place-code-requires, place-put-requires, place-same-length, place-same-length-2, place-returns, place-enum-known-v-2, place-keep-requires, place-place-requires, place-again-requires, place-loop-less, place-loop-again}
 use Rattle.chains.proofs.place.Reads as place
 use Rattle.chains.proofs.+place.Lts-place as place-lts

@@ -1,7 +1,7 @@
 -- `put` meets its contract. The invariant: x was put before the first k chains. The measure is the chains left.
 -- Assumes nothing.
 use Prim.Native.Nat.{ℕ, _-_, _≤_}
-use mathlib.Core.Path.{_≡_, refl, sym, subst, _∙_}
+use mathlib.Core.Path.{refl, sym, subst, _∙_}
 use native.Mathlib.Omega.{arith}
 use lib.ListN.{length-set}
 use Rattle.chains.specs.Chain.{freeOf, Put}

@@ -1,6 +1,6 @@
 -- `unroll` meets its contract. The invariant: the chain from cell h on is left to be written. The measure is h, since each cell comes after its next.
 -- Assumes nothing.
-use mathlib.Core.Path.{_≡_, refl, _∙_}
+use mathlib.Core.Path.{_∙_}
 use Prim.Native.Nat.{_*_}
 use native.Mathlib.Omega.{arith}
 use Rattle.chains.proofs.Writing.{Left, left-all, left-room, left-more, left-none}

@@ -1,7 +1,7 @@
 -- `write` meets its contract. The invariant: the first k clauses are written, the ends over the heads that were strung. The measure is the clauses left.
 -- Assumes nothing.
 use Prim.Native.Nat.{ℕ, _-_, _≤_}
-use mathlib.Core.Path.{_≡_, refl, _∙_}
+use mathlib.Core.Path.{_∙_}
 use mathlib.Core.Bool.{false}
 use native.Mathlib.Omega.{arith}
 use Rattle.predicate.specs.Tree.{treeAt}

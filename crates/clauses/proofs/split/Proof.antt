@@ -1,7 +1,7 @@
 -- `split` meets its contract: rows that the check takes are a tree, the one at the last row, whose clauses are listed.
 -- Assumes nothing.
 use Prim.Native.Nat.{ℕ, _-_}
-use mathlib.Core.Path.{_≡_, sym, ap, _∙_, subst}
+use mathlib.Core.Path.{sym, ap, _∙_, subst}
 use mathlib.Core.Bool.{false}
 use native.Mathlib.Omega.{arith}
 use Rattle.rows.specs.Layout.{count}

@@ -1,6 +1,6 @@
 -- `check` meets its contract: the lengths are tested in the order of `readRows`.
 -- Assumes nothing.
-use mathlib.Core.Path.{_≡_, sym, ap, _∙_}
+use mathlib.Core.Path.{sym, ap, _∙_}
 use native.Mathlib.Omega.{arith}
 use Rattle.tokens.specs.declared.refusal.Refusal.the-variants.{BadTree}
 use Rattle.rows.specs.Layout.{count}

@@ -1,6 +1,6 @@
 -- `class_of` meets its contract: each kind's arm has the class that the table of classes gives it, and any other number has none.
 -- Assumes nothing.
-use mathlib.Core.Path.{_≡_, sym, ap}
+use mathlib.Core.Path.{sym, ap}
 use Rattle.predicate.proofs.Classes.{unknown}
 use Rattle.predicate.specs.Row.{among, classes, classIn, classOf}
 use Rattle.predicate.proofs.class_of.Statement.{statement}

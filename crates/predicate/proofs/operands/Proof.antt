@@ -1,6 +1,6 @@
 -- `operands` meets its contract: an arm for each shape.
 -- Assumes nothing.
-use mathlib.Core.Path.{_≡_, sym, ap}
+use mathlib.Core.Path.{sym, ap}
 use Rattle.predicate.specs.Row.{arityOf}
 use borrow.Author.Needs.{needs}
 use Rattle.predicate.proofs.operands.Statement.{statement}

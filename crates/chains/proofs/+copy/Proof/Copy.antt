@@ -4,8 +4,8 @@ use Prim.Native.Nat.{_/_}
 use Rattle.chains.proofs.Chains.{copied-none, copied-one, clear-second, clear-first, copied-halves}
 use borrow.Author.Needs.{needs}
 use native.Mathlib.Omega.{arith}
-use mathlib.Core.Path.{_≡_, refl, sym, ap, _∙_}
-use Prim.Native.Nat.{ℕ, suc, _+_, _-_, _<_, _≤_}
+use mathlib.Core.Path.{_∙_}
+use Prim.Native.Nat.{ℕ, _-_}
 use Rattle.chains.proofs.+copy.Proof.Measures.{copy-at, copy-below}
 use Rattle.chains.proofs.copy.Reads as copy
 use Rattle.chains.proofs.+copy.Lts-copy as copy-lts

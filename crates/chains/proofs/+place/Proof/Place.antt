@@ -4,8 +4,8 @@ use Rattle.chains.specs.Chain.{freeOf}
 use Rattle.chains.proofs.Placing.{Going, going-first, atom-low, atom-asks, atom-done, keep-asks, right-asks, again-asks, left-falls, goes-left}
 use borrow.Author.Needs.{needs}
 use native.Mathlib.Omega.{arith}
-use mathlib.Core.Path.{_≡_, refl, sym, ap, _∙_}
-use Prim.Native.Nat.{ℕ, suc, _+_, _-_, _<_, _≤_}
+use mathlib.Core.Path.{_∙_}
+use Prim.Native.Nat.{ℕ}
 use Rattle.chains.proofs.+place.Proof.Measures.{place-at, place-below}
 use Rattle.chains.proofs.place.Reads as place
 use Rattle.chains.proofs.again.Reads as again-reads

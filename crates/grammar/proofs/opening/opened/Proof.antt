@@ -5,7 +5,7 @@ use borrow.Author.Needs.{needs}
 use borrow.Author.Tests.{not-true, not-false}
 use native.Mathlib.Omega.{arith}
 use mathlib.Core.Path.{_≡_, refl, sym, _∙_}
-use Prim.Native.Nat.{_-_, _≤_}
+use Prim.Native.Nat.{_≤_}
 use Rattle.tokens.specs.Token.{count}
 use Rattle.grammar.specs.Memory.{opens, opened}
 use Rattle.grammar.proofs.Openings.{opened-none, opened-stops, opened-goes, opening-in}

@@ -4,7 +4,7 @@ use borrow.Author.Needs.{needs}
 use native.Mathlib.Omega.{arith}
 use Rattle.lookup.proofs.Picking.{here-ready, here-result, left-falls, right-falls, each-some, left-ready, right-ready, cross-result, turned}
 use mathlib.Core.Path.{_∙_}
-use Prim.Native.Nat.{ℕ, _+_, _-_}
+use Prim.Native.Nat.{ℕ}
 use Rattle.lookup.proofs.clause.+visit.Proof.Measures.{visit-at, visit-below}
 use Rattle.lookup.proofs.clause.visit.Reads as visit
 use Rattle.normal.proofs.part_at.Reads as part-at-reads
