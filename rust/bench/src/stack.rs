@@ -232,7 +232,31 @@ fn mapping_start(address: usize) -> Option<usize> {
 #[cfg(test)]
 mod tests {
     use super::*;
+    use fontrisc::stack::{LOOKUP, PARSE, SPLIT};
     use std::hint::black_box;
+
+    /// What a thread needs for itself.
+    const THREAD: usize = 16 << 10;
+
+    /// The stack that suffices for an entry, as the crate `fontrisc` says it.
+    fn suffices(entry: &str) -> usize {
+        match entry {
+            "nothing" => 0,
+            "parse" => PARSE,
+            "split" => SPLIT,
+            _ => LOOKUP,
+        }
+    }
+
+    /// Where one does not suffice the whole test is stopped, with the thread's name.
+    #[test]
+    fn the_stack_that_is_said_suffices() {
+        for (entry, name, call) in calls() {
+            let thread = thread::Builder::new().name(format!("{entry}: {name}"));
+            let thread = thread.stack_size(suffices(entry) + THREAD).spawn(call);
+            assert!(thread.expect("a thread").join().is_ok(), "{entry}: {name}");
+        }
+    }
 
     #[test]
     fn a_known_depth_is_measured() {

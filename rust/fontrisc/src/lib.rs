@@ -1,23 +1,41 @@
 //! The safe face of the proved library Fontrisc: slices in, a `Result` out.
 //!
 //! What each function answers, for every input, is said in docs/FORMAT.md,
-//! whose sections are cited here as FORMAT §n. Nothing panics, and only [`read`]
-//! and [`clauses_of`] allocate. The library is proved to keep to that file; this
-//! crate only passes slices to it and turns its numbers into types.
+//! whose sections are cited here as FORMAT §n. The library is proved to keep to
+//! that file; this crate only passes slices to it and turns its numbers into
+//! types. Only `read` and `clauses_of` allocate.
 //!
 //! ```
-//! // a = 1
+//! use fontrisc::{syntax, token};
+//!
 //! let text = b"a = 1";
-//! let tokens = [3, 0, 1, 6, 2, 1, 1, 4, 1];
+//! let tokens = [token::IDENT, 0, 1, token::EQUAL, 2, 1, token::NUMBER, 4, 1];
 //! let mut rows = [0; 9];
 //! assert_eq!(fontrisc::parse(text, &tokens, &mut rows), Ok(3));
 //! // Column a, Integer 1, Equal of both.
-//! assert_eq!(rows, [9, 0, 0, 2, 1, 0, 19, 0, 1]);
+//! assert_eq!(rows, [syntax::COLUMN, 0, 0, syntax::INTEGER, 1, 0, syntax::EQUAL, 0, 1]);
 //! ```
+//!
+//! # Panics
+//!
+//! Nothing panics, with the library that is proved. With another one it might:
+//! where its number is no refusal's, where it counts or places more than it was
+//! lent, where a value has a kind that no value has, and where there are fewer
+//! values than it said.
+//!
+//! # Stack
+//!
+//! A call needs some of its thread's stack: [`stack`] says how much suffices. This
+//! was measured, at the deepest inputs there are, and nothing proves it. On a
+//! thread that has less left the operating system may stop the program, which is
+//! no panic and cannot be caught. Threads of Rust's library have 2 MB.
 
 mod ffi;
+pub mod predicate;
 mod reading;
 mod refusal;
+pub mod syntax;
+pub mod token;
 mod walking;
 
 #[cfg(feature = "lookup")]
@@ -58,6 +76,24 @@ pub mod limit {
     pub const CLAUSES: usize = 1_024;
     /// Literals in all those clauses together.
     pub const LITERALS: usize = 8_192;
+}
+
+/// The stack that suffices for a call, in bytes (docs/PERFORMANCE.md, section
+/// Stack). `spelled` needs next to nothing.
+///
+/// ```
+/// let work = || fontrisc::parse(b"a", &[fontrisc::token::IDENT, 0, 1], &mut [0; 3]);
+/// // 16 KB are for the thread itself.
+/// let thread = std::thread::Builder::new().stack_size(fontrisc::stack::PARSE + (16 << 10));
+/// assert_eq!(thread.spawn(work).unwrap().join().unwrap(), Ok(1));
+/// ```
+pub mod stack {
+    /// For `parse` and `read`.
+    pub const PARSE: usize = 64 << 10;
+    /// For `split` and `clauses_of`.
+    pub const SPLIT: usize = 256 << 10;
+    /// For `lookup`, `value_at` and `values`.
+    pub const LOOKUP: usize = 384 << 10;
 }
 
 /// The refusal that a C function's number and place are.

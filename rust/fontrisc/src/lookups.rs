@@ -1,6 +1,7 @@
 //! Lookups and their values: `lookup` and `value_at`.
 
-use crate::{Refused, ffi, refused};
+use crate::{Refused, ffi, predicate, refused};
+use std::fmt::{Display, Formatter};
 
 /// The lookup that a clause is.
 #[derive(Clone, Copy, Debug, PartialEq, Eq, Hash)]
@@ -30,12 +31,41 @@ impl<'t> Value<'t> {
     /// The value that a constant's row describes.
     fn of(text: &'t [u8], [kind, x, y]: [u64; 3]) -> Value<'t> {
         match kind {
-            1 => Value::Null,
-            2 => Value::Boolean(x == 1),
-            3 => Value::Integer(x as i64),
-            4 => Value::Float(f64::from_bits(x)),
-            5 => Value::String(&text[x as usize..][..y as usize]),
+            predicate::NULL => Value::Null,
+            predicate::BOOLEAN => Value::Boolean(x == 1),
+            predicate::INTEGER => Value::Integer(x as i64),
+            predicate::FLOAT => Value::Float(f64::from_bits(x)),
+            predicate::STRING => Value::String(&text[x as usize..][..y as usize]),
             _ => unreachable!("the library gives no other kind"),
+        }
+    }
+}
+
+/// As one would write it in a filter. A string that is not UTF-8 has its other
+/// bytes replaced.
+///
+/// ```
+/// use fontrisc::Value;
+///
+/// assert_eq!(Value::Null.to_string(), "NULL");
+/// assert_eq!(Value::Boolean(true).to_string(), "TRUE");
+/// assert_eq!(Value::Integer(-7).to_string(), "-7");
+/// assert_eq!(Value::Float(1.0).to_string(), "1.0");
+/// assert_eq!(Value::String(b"it's").to_string(), "'it''s'");
+/// ```
+impl Display for Value<'_> {
+    fn fmt(&self, f: &mut Formatter<'_>) -> std::fmt::Result {
+        match self {
+            Value::Null => f.write_str("NULL"),
+            Value::Boolean(true) => f.write_str("TRUE"),
+            Value::Boolean(false) => f.write_str("FALSE"),
+            Value::Integer(number) => write!(f, "{number}"),
+            Value::Float(number) if number.is_nan() => f.write_str("NAN"),
+            // Debug gives every float a point or an exponent, so that it reads as one.
+            Value::Float(number) => write!(f, "{number:?}"),
+            Value::String(bytes) => {
+                write!(f, "'{}'", String::from_utf8_lossy(bytes).replace('\'', "''"))
+            }
         }
     }
 }
@@ -43,11 +73,15 @@ impl<'t> Value<'t> {
 /// Finds out whether a clause of a predicate is a lookup, and on which column,
 /// with how many values (FORMAT §9).
 ///
+/// Stack: [`stack::LOOKUP`](crate::stack::LOOKUP).
+///
 /// ```
+/// use fontrisc::predicate::{COLUMN, EQUAL, INTEGER, IS, OR};
 /// use fontrisc::{Looked, lookup};
 ///
 /// // column 4 = 7 OR column 4 IS NULL
-/// let rows = [6, 4, 0, 3, 7, 0, 10, 0, 1, 6, 4, 0, 13, 3, 0, 8, 2, 4];
+/// let equal = [COLUMN, 4, 0, INTEGER, 7, 0, EQUAL, 0, 1];
+/// let rows = [&equal[..], &[COLUMN, 4, 0, IS, 3, 0, OR, 2, 4]].concat();
 /// assert_eq!(lookup(b"", &rows, 0), Ok(Looked { column: 4, values: 2 }));
 /// ```
 pub fn lookup(text: &[u8], rows: &[u64], clause: usize) -> Result<Looked, Refused> {
@@ -57,13 +91,18 @@ pub fn lookup(text: &[u8], rows: &[u64], clause: usize) -> Result<Looked, Refuse
     }
 }
 
-/// One value of a clause that is a lookup (FORMAT §9.3).
+/// One value of a clause that is a lookup (FORMAT §9.3). Each call is a pass over
+/// the rows.
+///
+/// Stack: [`stack::LOOKUP`](crate::stack::LOOKUP).
 ///
 /// ```
+/// use fontrisc::predicate::{COLUMN, EQUAL, INTEGER, IS, OR};
 /// use fontrisc::{Value, value_at};
 ///
 /// // column 4 = 7 OR column 4 IS NULL
-/// let rows = [6, 4, 0, 3, 7, 0, 10, 0, 1, 6, 4, 0, 13, 3, 0, 8, 2, 4];
+/// let equal = [COLUMN, 4, 0, INTEGER, 7, 0, EQUAL, 0, 1];
+/// let rows = [&equal[..], &[COLUMN, 4, 0, IS, 3, 0, OR, 2, 4]].concat();
 /// assert_eq!(value_at(b"", &rows, 0, 0), Ok(Value::Integer(7)));
 /// assert_eq!(value_at(b"", &rows, 0, 1), Ok(Value::Null));
 /// ```

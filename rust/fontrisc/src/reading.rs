@@ -8,18 +8,21 @@ use crate::{Refused, ffi, refused};
 /// A token is three numbers: its kind, and the start and length of its span in
 /// the text (FORMAT §2.2). A row is three numbers too, and rows stand in
 /// post-order (FORMAT §5.3). After an answer the rest of the table is as it
-/// was; after a refusal every number of the table is 0.
+/// was; after a refusal every number of the table is 0. Three numbers for each
+/// token, or for 2,048 tokens if there are more, are room enough.
+///
+/// Stack: [`stack::PARSE`](crate::stack::PARSE).
 ///
 /// ```
-/// use fontrisc::{Refusal, Refused, parse};
+/// use fontrisc::token::{EXCLAMATION, MINUS, NUMBER, PLUS};
+/// use fontrisc::{Refusal, Refused, parse, syntax};
 ///
-/// // -1!
 /// let mut rows = [7; 12];
-/// assert_eq!(parse(b"-1!", &[15, 0, 1, 1, 1, 1, 20, 2, 1], &mut rows), Ok(3));
-/// assert_eq!(rows, [2, 1, 0, 13, 0, 0, 15, 1, 0, 7, 7, 7]);
+/// assert_eq!(parse(b"-1!", &[MINUS, 0, 1, NUMBER, 1, 1, EXCLAMATION, 2, 1], &mut rows), Ok(3));
+/// assert_eq!(rows[..6], [syntax::INTEGER, 1, 0, syntax::NEGATE, 0, 0]);
+/// assert_eq!(rows[6..], [syntax::FACTORIAL, 1, 0, 7, 7, 7]);
 ///
-/// // 1 +
-/// let refused = parse(b"1 +", &[1, 0, 1, 14, 2, 1], &mut rows);
+/// let refused = parse(b"1 +", &[NUMBER, 0, 1, PLUS, 2, 1], &mut rows);
 /// assert_eq!(refused, Err(Refused { why: Refusal::End, place: 2 }));
 /// assert_eq!(rows, [0; 12]);
 /// ```
@@ -33,8 +36,12 @@ pub fn parse(text: &[u8], tokens: &[u32], rows: &mut [u64]) -> Result<usize, Ref
 /// The bytes of token `n`, as a part of the text (FORMAT §2.6). Where the table
 /// has no such token, or its span does not fit, the empty part at the start.
 ///
+/// Stack: next to nothing.
+///
 /// ```
-/// let tokens = [3, 0, 4, 6, 5, 1, 1, 7, 2];
+/// use fontrisc::token::{EQUAL, IDENT, NUMBER};
+///
+/// let tokens = [IDENT, 0, 4, EQUAL, 5, 1, NUMBER, 7, 2];
 /// assert_eq!(fontrisc::spelled(b"size = 64", &tokens, 2), b"64");
 /// assert_eq!(fontrisc::spelled(b"size = 64", &tokens, 3), b"");
 /// ```

@@ -19,11 +19,14 @@ pub struct Listed {
 /// after those written stay as they were, and so does everything after a
 /// refusal. Lists of 8,192 and 1,024 places are long enough for every predicate.
 ///
+/// Stack: [`stack::SPLIT`](crate::stack::SPLIT).
+///
 /// ```
+/// use fontrisc::predicate::{AND, COLUMN, OR};
 /// use fontrisc::{Listed, split};
 ///
 /// // (a AND b) OR c, where a, b and c are columns 0, 1 and 2
-/// let rows = [6, 0, 0, 6, 1, 0, 7, 0, 1, 6, 2, 0, 8, 2, 3];
+/// let rows = [COLUMN, 0, 0, COLUMN, 1, 0, AND, 0, 1, COLUMN, 2, 0, OR, 2, 3];
 /// let (mut literals, mut ends) = ([0; 8], [0; 4]);
 /// let listed = split(b"", &rows, &mut literals, &mut ends);
 /// assert_eq!(listed, Ok(Listed { clauses: 2, literals: 4 }));

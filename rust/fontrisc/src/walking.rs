@@ -17,10 +17,11 @@ pub struct Row {
 /// The rows of a table. A rest that is no whole row is left out.
 ///
 /// ```
+/// use fontrisc::syntax::{COLUMN, EQUAL, INTEGER};
 /// use fontrisc::{Row, rows};
 ///
-/// let table = [9, 0, 0, 2, 1, 0, 19, 0, 1];
-/// assert_eq!(rows(&table).last(), Some(Row { kind: 19, x: 0, y: 1 }));
+/// let table = [COLUMN, 0, 0, INTEGER, 1, 0, EQUAL, 0, 1];
+/// assert_eq!(rows(&table).last(), Some(Row { kind: EQUAL, x: 0, y: 1 }));
 /// ```
 pub fn rows(table: &[u64]) -> impl ExactSizeIterator<Item = Row> + DoubleEndedIterator + '_ {
     table.as_chunks().0.iter().map(|[kind, x, y]| Row { kind: *kind, x: *x, y: *y })
@@ -29,11 +30,14 @@ pub fn rows(table: &[u64]) -> impl ExactSizeIterator<Item = Row> + DoubleEndedIt
 /// Reads a token table as one expression, as [`parse`] does, into a table of
 /// the size that is needed.
 ///
-/// ```
-/// use fontrisc::{Row, read};
+/// Stack: [`stack::PARSE`](crate::stack::PARSE).
 ///
-/// let table = read(b"-1", &[15, 0, 1, 1, 1, 1]).unwrap();
-/// assert_eq!(table, [Row { kind: 2, x: 1, y: 0 }, Row { kind: 13, x: 0, y: 0 }]);
+/// ```
+/// use fontrisc::{read, syntax, token};
+///
+/// let table = read(b"-1", &[token::MINUS, 0, 1, token::NUMBER, 1, 1]).unwrap();
+/// let kinds: Vec<u64> = table.iter().map(|row| row.kind).collect();
+/// assert_eq!(kinds, [syntax::INTEGER, syntax::NEGATE]);
 /// ```
 pub fn read(text: &[u8], tokens: &[u32]) -> Result<Vec<Row>, Refused> {
     // No list makes more rows than it has tokens.
@@ -61,10 +65,11 @@ impl From<u32> for Literal {
 /// them. From lists of another origin it may give clauses that are cut short.
 ///
 /// ```
+/// use fontrisc::predicate::{COLUMN, NOT, OR};
 /// use fontrisc::{Literal, clauses, split};
 ///
 /// // a OR NOT b, where a and b are columns 0 and 1
-/// let rows = [6, 0, 0, 6, 1, 0, 9, 1, 0, 8, 0, 2];
+/// let rows = [COLUMN, 0, 0, COLUMN, 1, 0, NOT, 1, 0, OR, 0, 2];
 /// let (mut literals, mut ends) = ([0; 8], [0; 4]);
 /// let listed = split(b"", &rows, &mut literals, &mut ends).unwrap();
 /// let mut list = clauses(&literals, &ends[..listed.clauses]);
@@ -87,9 +92,14 @@ pub fn clauses<'l>(
 
 /// The clauses of a predicate, as [`split`](crate::split) lists them.
 ///
+/// Stack: [`stack::SPLIT`](crate::stack::SPLIT).
+///
 /// ```
+/// use fontrisc::predicate::{AND, COLUMN};
+///
 /// // a AND b, where a and b are columns 0 and 1
-/// let list = fontrisc::clauses_of(b"", &[6, 0, 0, 6, 1, 0, 7, 0, 1]).unwrap();
+/// let rows = [COLUMN, 0, 0, COLUMN, 1, 0, AND, 0, 1];
+/// let list = fontrisc::clauses_of(b"", &rows).unwrap();
 /// assert_eq!(list.iter().map(|clause| clause[0].row).collect::<Vec<_>>(), [0, 1]);
 /// ```
 #[cfg(feature = "split")]
@@ -100,22 +110,32 @@ pub fn clauses_of(text: &[u8], rows: &[u64]) -> Result<Vec<Vec<Literal>>, Refuse
 }
 
 /// The values of a clause that is a lookup, each asked for by
-/// [`value_at`](crate::value_at) when its turn comes.
+/// [`value_at`](crate::value_at) when its turn comes. They are parts of the text
+/// alone, and may be kept when the rows are gone.
+///
+/// Each value is a pass over the rows. So all values of a clause take a time that
+/// grows as the square of its length.
+///
+/// Stack: [`stack::LOOKUP`](crate::stack::LOOKUP).
 ///
 /// ```
+/// use fontrisc::predicate::{COLUMN, EQUAL, STRING};
 /// use fontrisc::{Value, values};
 ///
-/// // column 4 = 7 OR column 4 IS NULL
-/// let rows = [6, 4, 0, 3, 7, 0, 10, 0, 1, 6, 4, 0, 13, 3, 0, 8, 2, 4];
-/// let found: Vec<Value> = values(b"", &rows, 0).unwrap().collect();
-/// assert_eq!(found, [Value::Integer(7), Value::Null]);
+/// let text = b"free";
+/// let found: Vec<Value> = {
+///     // column 4 = 'free'
+///     let rows = [COLUMN, 4, 0, STRING, 0, 4, EQUAL, 0, 1];
+///     values(text, &rows, 0).unwrap().collect()
+/// };
+/// assert_eq!(found, [Value::String(b"free")]);
 /// ```
 #[cfg(feature = "lookup")]
-pub fn values<'t>(
+pub fn values<'t, 'r>(
     text: &'t [u8],
-    rows: &'t [u64],
+    rows: &'r [u64],
     clause: usize,
-) -> Result<impl ExactSizeIterator<Item = crate::Value<'t>> + 't, Refused> {
+) -> Result<impl ExactSizeIterator<Item = crate::Value<'t>> + use<'t, 'r>, Refused> {
     let found = crate::lookup(text, rows, clause)?;
     let value = move |n| crate::value_at(text, rows, clause, n);
     Ok((0..found.values).map(move |n| value(n).expect("there are so many")))

@@ -167,3 +167,11 @@ fn the_limits_have_their_numbers() {
         assert_eq!(defined(&format!("MAX_{name}")), limit);
     }
 }
+
+#[test]
+fn the_stacks_have_their_sizes() {
+    use fontrisc::stack::*;
+    for (name, size) in [("PARSE", PARSE), ("SPLIT", SPLIT), ("LOOKUP", LOOKUP)] {
+        assert_eq!(defined(&format!("STACK_{name}")), size);
+    }
+}
