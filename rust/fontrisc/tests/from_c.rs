@@ -11,7 +11,10 @@ const PROGRAM: &str = r#"
 
 int main(void) {
     const uint8_t text[] = "a = 1 +";
-    const uint32_t tokens[] = {3, 0, 1, 6, 2, 1, 1, 4, 1, 14, 6, 1};
+    const uint32_t tokens[] = {
+        FONTRISC_TOKEN_IDENT, 0, 1,  FONTRISC_TOKEN_EQUAL, 2, 1,
+        FONTRISC_TOKEN_NUMBER, 4, 1, FONTRISC_TOKEN_PLUS, 6, 1,
+    };
     uint64_t rows[12] = {7, 7, 7, 7, 7, 7, 7, 7, 7, 7, 7, 7};
     uint64_t at = 0, start = 0, length = 0;
     uint32_t refusal = fontrisc_parse(text, 7, tokens, 9, rows, 12, &at);
@@ -57,6 +60,7 @@ fn the_example_runs() {
     let source = Path::new(env!("CARGO_MANIFEST_DIR")).join("../../examples/filter.c");
     let said = run(&source, "filter");
     let lines: Vec<&str> = said.lines().collect();
-    assert_eq!(lines[..2], ["clause 0: row 2 row 5", "  a lookup on column 0: 'free' 'handover'"]);
-    assert_eq!(lines[2..], ["clause 1: NOT row 7", "  no lookup: every cell has to be asked"]);
+    assert_eq!(lines[0], "10 rows, columns: op op fenced");
+    assert_eq!(lines[1..3], ["clause 0: row 2 row 5", "  a lookup on column 0: 'free' 'handover'"]);
+    assert_eq!(lines[3..], ["clause 1: NOT row 7", "  no lookup: every cell has to be asked"]);
 }
