@@ -1,7 +1,7 @@
 //! Lookups and their values: `lookup` and `value_at`.
 
 use crate::{Refused, ffi, predicate, refused};
-use std::fmt::{Display, Formatter};
+use std::fmt::{Display, Formatter, Write};
 
 /// The lookup that a clause is.
 #[derive(Clone, Copy, Debug, PartialEq, Eq, Hash)]
@@ -41,8 +41,8 @@ impl<'t> Value<'t> {
     }
 }
 
-/// As one would write it in a filter. A string that is not UTF-8 has its other
-/// bytes replaced.
+/// As one would write it in a filter. Bytes of a string that are no UTF-8 are
+/// replaced.
 ///
 /// ```
 /// use fontrisc::Value;
@@ -61,13 +61,28 @@ impl Display for Value<'_> {
             Value::Boolean(false) => f.write_str("FALSE"),
             Value::Integer(number) => write!(f, "{number}"),
             Value::Float(number) if number.is_nan() => f.write_str("NAN"),
+            Value::Float(f64::INFINITY) => f.write_str("INFINITY"),
+            Value::Float(f64::NEG_INFINITY) => f.write_str("-INFINITY"),
             // Debug gives every float a point or an exponent, so that it reads as one.
             Value::Float(number) => write!(f, "{number:?}"),
-            Value::String(bytes) => {
-                write!(f, "'{}'", String::from_utf8_lossy(bytes).replace('\'', "''"))
-            }
+            Value::String(bytes) => write_quoted(f, bytes),
         }
     }
+}
+
+/// Writes a string in quotes, those within it doubled.
+fn write_quoted(f: &mut Formatter<'_>, bytes: &[u8]) -> std::fmt::Result {
+    f.write_char('\'')?;
+    for chunk in bytes.utf8_chunks() {
+        for (n, part) in chunk.valid().split('\'').enumerate() {
+            f.write_str(if n > 0 { "''" } else { "" })?;
+            f.write_str(part)?;
+        }
+        if !chunk.invalid().is_empty() {
+            f.write_char(char::REPLACEMENT_CHARACTER)?;
+        }
+    }
+    f.write_char('\'')
 }
 
 /// Finds out whether a clause of a predicate is a lookup, and on which column,

@@ -92,6 +92,17 @@ impl Refusal {
         }
     }
 
+    /// What its place is the number of, a "token" or a "row"; none where it has no
+    /// place.
+    pub fn place_of(self) -> Option<&'static str> {
+        match self {
+            Refusal::TooLong | Refusal::TooMany | Refusal::NoList => None,
+            Refusal::NotLookup | Refusal::NoSuch => None,
+            Refusal::BadTree => Some("row"),
+            _ => Some("token"),
+        }
+    }
+
     /// What it means, for people.
     pub fn sentence(self) -> &'static str {
         match self {
@@ -130,7 +141,9 @@ impl Display for Refusal {
 /// ```
 /// use fontrisc::{Refusal, Refused};
 /// let refused = Refused { why: Refusal::End, place: 2 };
-/// assert_eq!(refused.to_string(), "END at 2: the expression stops too early");
+/// assert_eq!(refused.to_string(), "END (3) at token 2: the expression stops too early");
+/// let refused = Refused { why: Refusal::NotLookup, place: 0 };
+/// assert_eq!(refused.to_string(), "NOT_LOOKUP (13): the clause is no lookup on one column");
 /// ```
 #[derive(Clone, Copy, Debug, PartialEq, Eq, Hash)]
 pub struct Refused {
@@ -142,7 +155,11 @@ pub struct Refused {
 
 impl Display for Refused {
     fn fmt(&self, f: &mut Formatter<'_>) -> std::fmt::Result {
-        write!(f, "{} at {}: {}", self.why, self.place, self.why.sentence())
+        write!(f, "{} ({})", self.why, self.why.number())?;
+        if let Some(what) = self.why.place_of() {
+            write!(f, " at {what} {}", self.place)?;
+        }
+        write!(f, ": {}", self.why.sentence())
     }
 }
 

@@ -40,7 +40,17 @@ fn an_empty_part_stands_where_it_was_said_to() {
 fn a_refusal_reads_as_a_sentence() {
     let refused = parse(b"a IS 3", &IS_THREE, &mut [0; 9]).unwrap_err();
     let error: &dyn std::error::Error = &refused;
-    assert!(error.to_string().starts_with("WRONG_TOKEN at 2: something else is needed here"));
+    assert!(error.to_string().starts_with("WRONG_TOKEN (5) at token 2: something else"));
+}
+
+#[test]
+fn a_refusal_without_a_place_names_none() {
+    for why in Refusal::ALL {
+        let said = Refused { why, place: 77 }.to_string();
+        let named = format!("{} ({})", why.name(), why.number());
+        assert!(said.starts_with(&named), "{said}");
+        assert_eq!(said.contains("77"), why.place_of().is_some(), "{said}");
+    }
 }
 
 #[test]
@@ -107,6 +117,18 @@ mod lookups {
         assert!(matches!(value(2), Ok(Value::Float(x)) if x == 0.0 && x.is_sign_negative()));
         assert_eq!(value(3), Ok(Value::Boolean(true)));
         assert_eq!(value(4).unwrap_err().why, Refusal::NoSuch);
+    }
+
+    #[test]
+    fn values_read_as_in_a_filter() {
+        let said = |value: Value| value.to_string();
+        assert_eq!(said(Value::String("''ø\n".as_bytes())), "'''''ø\n'");
+        assert_eq!(said(Value::String(b"a\xffb\xc3")), "'a\u{fffd}b\u{fffd}'");
+        assert_eq!(said(Value::String(b"")), "''");
+        assert_eq!(said(Value::Boolean(false)), "FALSE");
+        let floats = [f64::NAN, f64::INFINITY, -0.0, 1e300].map(|x| said(Value::Float(x)));
+        assert_eq!(floats, ["NAN", "INFINITY", "-0.0", "1e300"]);
+        assert_eq!(said(Value::Float(f64::NEG_INFINITY)), "-INFINITY");
     }
 
     #[test]
