@@ -62,7 +62,8 @@ impl From<u32> for Literal {
 }
 
 /// The clauses that the first numbers of `split`'s two lists spell, so many of
-/// them. From lists of another origin it may give clauses that are cut short.
+/// them. From lists of another origin it may give clauses that are cut short. A
+/// clause borrows the literals alone.
 ///
 /// ```
 /// use fontrisc::predicate::{COLUMN, NOT, OR};
@@ -78,10 +79,10 @@ impl From<u32> for Literal {
 /// assert!(list.next().is_none());
 /// ```
 #[cfg(feature = "split")]
-pub fn clauses<'l>(
+pub fn clauses<'l, 'e>(
     literals: &'l [u32],
-    ends: &'l [u32],
-) -> impl ExactSizeIterator<Item = impl ExactSizeIterator<Item = Literal> + 'l> + 'l {
+    ends: &'e [u32],
+) -> impl ExactSizeIterator<Item = impl ExactSizeIterator<Item = Literal> + use<'l>> + use<'l, 'e> {
     let mut start = 0;
     ends.iter().map(move |end| {
         let clause = literals.get(start..*end as usize).unwrap_or_default();

@@ -67,7 +67,7 @@ fn names_and_sentences_differ() {
 
 #[cfg(feature = "split")]
 mod splitting {
-    use fontrisc::{Listed, Refusal, Refused, split};
+    use fontrisc::{Listed, Refusal, Refused, clauses, split};
 
     /// `p OR NOT (q AND r)` of FORMAT §8.7.
     const ROWS: [u64; 24] =
@@ -90,11 +90,21 @@ mod splitting {
         let refused = Refused { why: Refusal::BadTree, place: 7 };
         assert_eq!(split(b"", &ROWS[..23], &mut literals, &mut ends), Err(refused));
     }
+
+    #[test]
+    fn a_clause_outlives_the_ends() {
+        let literals = [4, 7, 9];
+        let last = {
+            let ends = vec![2, 3];
+            clauses(&literals, &ends).last()
+        };
+        assert_eq!(last.unwrap().next(), Some(9.into()));
+    }
 }
 
 #[cfg(feature = "lookup")]
 mod lookups {
-    use fontrisc::{Looked, Refusal, Value, lookup, value_at};
+    use fontrisc::{Looked, Refusal, Value, lookup, value_at, values};
 
     /// `c = 'no' OR c IS NAN OR -0.0 = c OR c = TRUE OR c = NULL` on column 9,
     /// the string at the end of the text.
@@ -117,6 +127,16 @@ mod lookups {
         assert!(matches!(value(2), Ok(Value::Float(x)) if x == 0.0 && x.is_sign_negative()));
         assert_eq!(value(3), Ok(Value::Boolean(true)));
         assert_eq!(value(4).unwrap_err().why, Refusal::NoSuch);
+    }
+
+    #[test]
+    fn values_outlive_the_rows() {
+        let text = b"?no".to_vec();
+        let found: Vec<Value> = {
+            let rows = rows();
+            values(&text, &rows, 0).unwrap().collect()
+        };
+        assert_eq!((found.len(), found[0]), (4, Value::String(b"no")));
     }
 
     #[test]
