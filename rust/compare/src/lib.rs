@@ -14,8 +14,10 @@
 //!   docs/DIFFERENCES.md.
 //! * [`run`]: many cases one after another; [`all`]: of all entries in turn;
 //!   [`shrink`]: small ones from large.
+//! * [`arguments`]: what the command is asked for.
 
 pub mod all;
+pub mod arguments;
 pub mod edges;
 pub mod entries;
 pub mod included;

@@ -2,6 +2,7 @@
 //! rules and with the original, and exits with 1 at the first difference.
 
 use compare::all;
+use compare::arguments::{Which, asked};
 use compare::edges;
 use compare::entries::Library;
 use compare::parse::Parse;
@@ -24,41 +25,11 @@ const USAGE: &str = "usage: compare parse --exhaustive LENGTH
               or every tree of AND, OR and NOT over up to ATOMS atoms.
 --parts:      every string of up to LENGTH tokens over 19, one for each part they play.
 --edges:      the limits from both sides.
---cases:      COUNT cases by chance, the first of them number CASE (0).
+--cases:      COUNT cases by chance, at least one, the first of them number CASE (0).
 all:          all five entries in turn, ten thousand cases a turn, so COUNT is rounded up
-              to whole turns; without a COUNT, until it is stopped.";
+              to whole turns; without a COUNT, until it is stopped.
 
-/// Which cases are compared.
-#[derive(Clone, Copy)]
-enum Which {
-    Edges,
-    Exhaustive(usize),
-    Parts(usize),
-    Chance(Chosen),
-    Endless(u64),
-}
-
-/// The cases that the arguments after the entry ask for.
-fn which(arguments: &[&str]) -> Option<Which> {
-    if *arguments == ["--edges"] {
-        return Some(Which::Edges);
-    }
-    let [option, value, rest @ ..] = arguments else { return None };
-    let number: u64 = value.parse().ok()?;
-    match (*option, rest) {
-        ("--exhaustive", []) => Some(Which::Exhaustive(number as usize)),
-        ("--parts", []) => Some(Which::Parts(number as usize)),
-        ("--seed", []) => Some(Which::Endless(number)),
-        ("--cases", ["--seed", seed]) => {
-            Some(Which::Chance(Chosen { seed: seed.parse().ok()?, from: 0, cases: number }))
-        }
-        ("--cases", ["--seed", seed, "--from", from]) => {
-            let (seed, from) = (seed.parse().ok()?, from.parse().ok()?);
-            Some(Which::Chance(Chosen { seed, from, cases: number }))
-        }
-        _ => None,
-    }
-}
+Options may stand in any order.";
 
 /// What a run comes to; none if there is no such run.
 type Ran = Option<Result<Tally, Box<Difference>>>;
@@ -112,23 +83,23 @@ fn split(which: Which) -> Ran {
     })
 }
 
+/// Says why there is no run, and how one is asked for.
+fn unusable(why: &str) -> ExitCode {
+    eprintln!("compare: {why}\n\n{USAGE}");
+    ExitCode::from(2)
+}
+
 fn main() -> ExitCode {
     let arguments: Vec<String> = std::env::args().skip(1).collect();
     let arguments: Vec<&str> = arguments.iter().map(String::as_str).collect();
-    let asked = arguments.split_first().and_then(|(entry, rest)| Some((*entry, which(rest)?)));
-    let Some((entry, which)) = asked else {
-        eprintln!("{USAGE}");
-        return ExitCode::from(2);
+    let (entry, which) = match asked(&arguments) {
+        Ok(asked) => asked,
+        Err(why) => return unusable(&why),
     };
     let start = Instant::now();
     // The original has no limit on levels, and trees are as deep as they are long.
     match oracle::deep(|| run(entry, which)) {
-        None => {
-            eprintln!(
-                "{USAGE}\nThe library that was linked has no such entry, or it has no such run."
-            );
-            ExitCode::from(2)
-        }
+        None => unusable(&format!("`{entry}` has no such run, or the library no such entry")),
         Some(Ok(tally)) => {
             println!("{tally}");
             println!("{:.1} seconds", start.elapsed().as_secs_f64());

@@ -142,6 +142,13 @@ pub struct Chosen {
     pub cases: u64,
 }
 
+impl Chosen {
+    /// The number after the last case's; none where there are not so many numbers.
+    pub fn end(&self) -> Option<u64> {
+        self.from.checked_add(self.cases)
+    }
+}
+
 /// Compares cases made by chance.
 pub fn by_chance<C: Comparison>(
     comparison: &mut C,
@@ -149,7 +156,8 @@ pub fn by_chance<C: Comparison>(
     made: impl Fn(&mut Dice) -> C::Case,
 ) -> Result<Tally, Box<Difference>> {
     let mut tally = Tally::default();
-    for n in chosen.from..chosen.from + chosen.cases {
+    let end = chosen.end().expect("each case has a number");
+    for n in chosen.from..end {
         let case = made(&mut dice(chosen.seed, n));
         match comparison.compare(&case) {
             Outcome::Agrees(number, verdict) => tally.count(number, &verdict),
