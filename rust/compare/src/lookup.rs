@@ -119,11 +119,27 @@ fn valued(made: &[Clause], case: &Case, number: u32, ours: Option<[u64; 3]>) -> 
 
 impl Shrinks for Case {
     fn smaller(&self) -> Box<dyn Iterator<Item = Case> + '_> {
-        let fewer = predicates::fewer(&self.text, &self.rows)
-            .map(|Predicate { text, rows }| Case { text, rows, ..self.clone() });
-        let clause = lower(self.clause).map(|clause| Case { clause, ..self.clone() });
         let n = lower(self.n).map(|n| Case { n, ..self.clone() });
-        Box::new(fewer.chain(clause).chain(n))
+        let clause = lower(self.clause).map(|clause| Case { clause, ..self.clone() });
+        let fewer =
+            predicates::fewer(&self.text, &self.rows).flat_map(|Predicate { text, rows }| {
+                let case = |(clause, n)| Case { text: text.clone(), rows: rows.clone(), clause, n };
+                self.asked_of_fewer().into_iter().map(case).collect::<Vec<_>>()
+            });
+        Box::new(n.chain(clause).chain(fewer))
+    }
+}
+
+impl Case {
+    /// The numbers of a clause and a value to ask a smaller predicate for: what is
+    /// gone may have stood before them.
+    fn asked_of_fewer(&self) -> Vec<(usize, usize)> {
+        let (clause, n) = (self.clause, self.n);
+        let before = clause.saturating_sub(1);
+        let mut asked = vec![(clause, n), (0, n), (before, n), (clause, n.saturating_sub(1))];
+        asked.sort_unstable();
+        asked.dedup();
+        asked
     }
 }
 

@@ -4,7 +4,8 @@ use crate::entries::{Reads, Rules};
 use crate::included::{self, Verdict};
 use crate::lent::Lent;
 use crate::run::{Comparison, Outcome};
-use crate::shrink::{Shrinks, cuts, lower};
+use crate::shrink::{Shrinks, cuts, lower, packed_tokens, smaller_spans};
+use fontrisc::token::{CLOSE_PAREN, IDENT, OPEN_PAREN};
 use oracle::plain::{self, limit};
 use std::fmt::{Display, Formatter};
 
@@ -92,18 +93,27 @@ impl Shrinks for Case {
     fn smaller(&self) -> Box<dyn Iterator<Item = Case> + '_> {
         let count = self.tokens.len() / 3;
         let needed = self.needed();
-        let tokens = cuts(count).flat_map(move |cut| {
-            let fewer = self.without(cut);
+        let cut = cuts(count).map(|cut| self.without(cut));
+        let opened = self.pairs().into_iter().flat_map(|(open, close)| self.opened(open, close));
+        let tokens = cut.chain(opened).flat_map(move |fewer| {
             let suited = needed.and_then(|needed| fewer.suited(needed));
             [Some(fewer), suited].into_iter().flatten()
         });
         let ragged = (!self.tokens.len().is_multiple_of(3))
             .then(|| Case { tokens: self.tokens[..3 * count].to_vec(), ..self.clone() });
         let slots = lower(self.slots).map(|slots| Case { slots, ..self.clone() });
+        let packed = packed_tokens(&self.text, &self.tokens).map(|(text, tokens)| Case {
+            text,
+            tokens,
+            ..self.clone()
+        });
         let text = lower(self.text.len())
             .map(|length| Case { text: self.text[..length].to_vec(), ..self.clone() });
         let spans = (0..count).filter_map(|n| self.with_plain_span(n));
-        Box::new(tokens.chain(ragged).chain(slots).chain(text).chain(spans))
+        let shorter =
+            smaller_spans(&self.text, &self.tokens).map(|tokens| Case { tokens, ..self.clone() });
+        let tokens = tokens.chain(ragged);
+        Box::new(tokens.chain(slots).chain(packed).chain(text).chain(spans).chain(shorter))
     }
 }
 
@@ -113,6 +123,28 @@ impl Case {
         let mut tokens = self.tokens.clone();
         tokens.drain(3 * cut.start..3 * cut.end);
         Case { tokens, ..self.clone() }
+    }
+
+    /// The parentheses that belong together, inner ones before outer ones.
+    fn pairs(&self) -> Vec<(usize, usize)> {
+        let (mut open, mut pairs) = (Vec::new(), Vec::new());
+        for (n, token) in self.tokens.chunks_exact(3).enumerate() {
+            match token[0] {
+                OPEN_PAREN => open.push(n),
+                CLOSE_PAREN => pairs.extend(open.pop().map(|open| (open, n))),
+                _ => {}
+            }
+        }
+        pairs
+    }
+
+    /// The case without a pair of parentheses, and without the name before it too
+    /// if there is one.
+    fn opened(&self, open: usize, close: usize) -> impl Iterator<Item = Case> + use<> {
+        let without = self.without(close..close + 1).without(open..open + 1);
+        let name = open.checked_sub(1).filter(|name| self.tokens[3 * name] == IDENT);
+        let bare = name.map(|name| without.without(name..name + 1));
+        bare.into_iter().chain([without])
     }
 
     /// How many numbers of the table the rows would fill if there were room.

@@ -1,14 +1,11 @@
 //! Predicates by chance, every small one, and smaller ones from large ones.
 
-use crate::shrink::{cuts, lower};
+use crate::shrink::{cuts, lower, packed};
 use crate::split::Case;
+use fontrisc::predicate::{AND, OR, STRING};
 use oracle::cases::*;
 use oracle::plain::predicate::operands;
 use oracle::plain::{self, limit};
-
-/// The kinds of an AND and an OR.
-const AND: u64 = 7;
-const OR: u64 = 8;
 
 /// Makes a predicate by chance, good or bad.
 pub fn made(dice: &mut Dice) -> Predicate {
@@ -247,10 +244,11 @@ pub fn fewer(text: &[u8], rows: &[u64]) -> std::vec::IntoIter<Predicate> {
 }
 
 /// Smaller predicates, the boldest first: an operand in the place of a row, a
-/// column in the place of a row, rows cut out, less text.
+/// column in the place of a row, rows cut out, less text, shorter strings.
 pub fn smaller(made: &Predicate) -> Box<dyn Iterator<Item = Predicate> + '_> {
     let text = lower(made.text.len())
         .map(|length| Predicate { text: made.text[..length].to_vec(), rows: made.rows.clone() });
+    let text = with_packed_text(made).into_iter().chain(text).chain(with_shorter_strings(made));
     let Some(starts) = starts(made) else {
         let cut = cuts(made.rows.len()).map(|cut| {
             let mut rows = made.rows.clone();
@@ -267,6 +265,32 @@ pub fn smaller(made: &Predicate) -> Box<dyn Iterator<Item = Predicate> + '_> {
         parts.map(move |o| with_operand(made, &starts, r, o as usize)).chain(leaf)
     });
     Box::new(hoisted.chain(text))
+}
+
+/// The rows that are strings.
+fn strings(made: &Predicate) -> impl Iterator<Item = usize> {
+    (0..made.rows.len() / 3).filter(|r| made.rows[3 * r] == STRING)
+}
+
+/// The predicate without the bytes that no string uses.
+fn with_packed_text(made: &Predicate) -> Option<Predicate> {
+    let spans = strings(made).map(|r| (made.rows[3 * r + 1], made.rows[3 * r + 2]));
+    let (text, spans) = packed(&made.text, &spans.collect::<Vec<_>>())?;
+    let mut rows = made.rows.clone();
+    for (r, (start, length)) in strings(made).zip(spans) {
+        rows[3 * r + 1..3 * r + 3].copy_from_slice(&[start, length]);
+    }
+    Some(Predicate { text, rows })
+}
+
+/// The predicate with one of its strings cut short.
+fn with_shorter_strings(made: &Predicate) -> impl Iterator<Item = Predicate> {
+    let lengths = |r: usize| lower(made.rows[3 * r + 2] as usize).map(move |length| (r, length));
+    strings(made).flat_map(lengths).map(|(r, length)| {
+        let mut rows = made.rows.clone();
+        rows[3 * r + 2] = length as u64;
+        Predicate { text: made.text.clone(), rows }
+    })
 }
 
 /// The three numbers of a row.

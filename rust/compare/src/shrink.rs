@@ -32,10 +32,81 @@ pub fn cuts(count: usize) -> impl Iterator<Item = Range<usize>> {
     })
 }
 
-/// Numbers to try in the place of a larger one.
+/// Numbers to try in the place of a larger one: none of it, half of it, three
+/// quarters and so on, three less and one less. So few steps lead to the smallest
+/// number that will do, however large the first one is.
 pub fn lower(number: usize) -> impl Iterator<Item = usize> {
+    let parts = std::iter::successors(Some(number), |part| Some(part / 2));
+    let tries = parts.take_while(|part| *part > 1).map(move |part| number - part);
     let near = [number.saturating_sub(3), number.saturating_sub(1)];
-    let mut tries = vec![0, number / 2, number / 2 + number / 4];
-    tries.extend(near);
-    tries.into_iter().filter(move |n| *n < number)
+    tries.chain(near).filter(move |n| *n < number)
+}
+
+/// A part of a text: its start and its length.
+pub type Span = (u64, u64);
+
+/// A text without the bytes that lie in no span that fits, and the spans over what
+/// is left; none if all bytes are used. What reached past the text still does, by
+/// as much.
+pub fn packed(text: &[u8], spans: &[Span]) -> Option<(Vec<u8>, Vec<Span>)> {
+    let used = used(text.len(), spans);
+    let kept: Vec<u8> =
+        text.iter().zip(&used).filter(|(_, used)| **used).map(|(b, _)| *b).collect();
+    let gone = (text.len() - kept.len()) as u64;
+    if gone == 0 {
+        return None;
+    }
+    let mut places = vec![0];
+    places.extend(used.iter().scan(0, |place, used| {
+        *place += u64::from(*used);
+        Some(*place)
+    }));
+    let moved = |place: u64| places.get(place as usize).copied().unwrap_or_else(|| place - gone);
+    let span = |(start, length): &Span| match start.checked_add(*length) {
+        Some(end) => (moved(*start), moved(end) - moved(*start)),
+        None => (moved(*start), *length),
+    };
+    Some((kept, spans.iter().map(span).collect()))
+}
+
+/// Which bytes of a text of some length lie in a span that fits.
+fn used(length: usize, spans: &[Span]) -> Vec<bool> {
+    let mut used = vec![false; length];
+    for (start, count) in spans {
+        if start.checked_add(*count).is_some_and(|end| end <= length as u64) {
+            used[*start as usize..][..*count as usize].fill(true);
+        }
+    }
+    used
+}
+
+/// A text and a token table over it without the bytes that no token uses.
+pub fn packed_tokens(text: &[u8], tokens: &[u32]) -> Option<(Vec<u8>, Vec<u32>)> {
+    let spans = tokens.as_chunks::<3>().0.iter();
+    let spans = spans.map(|[_, start, length]| (u64::from(*start), u64::from(*length)));
+    let (text, spans) = packed(text, &spans.collect::<Vec<_>>())?;
+    let mut tokens = tokens.to_vec();
+    for (token, (start, length)) in tokens.chunks_exact_mut(3).zip(spans) {
+        token[1..].copy_from_slice(&[start as u32, length as u32]);
+    }
+    Some((text, tokens))
+}
+
+/// Token tables with one span made shorter, at its end or at its start, or moved
+/// to the front: of spans that fit, as the bytes of others say nothing.
+pub fn smaller_spans<'a>(text: &'a [u8], tokens: &'a [u32]) -> impl Iterator<Item = Vec<u32>> + 'a {
+    let spans = tokens.as_chunks::<3>().0.iter().enumerate();
+    let fits = |start: u32, length: u32| start as usize + length as usize <= text.len();
+    let fitting = spans.filter(move |(_, [_, start, length])| fits(*start, *length));
+    let smaller = fitting.flat_map(|(n, [_, start, length])| {
+        let ends = lower(*length as usize).map(|length| [*start, length as u32]);
+        let later = (*length > 1).then(|| [start + 1, length - 1]);
+        let starts = lower(*start as usize).map(|start| [start as u32, *length]);
+        ends.chain(later).chain(starts).map(move |span| (n, span))
+    });
+    smaller.map(|(n, span)| {
+        let mut tokens = tokens.to_vec();
+        tokens[3 * n + 1..3 * n + 3].copy_from_slice(&span);
+        tokens
+    })
 }

@@ -3,7 +3,7 @@
 use crate::entries::{Reads, Rules};
 use crate::included::Verdict;
 use crate::run::{Comparison, Outcome};
-use crate::shrink::{Shrinks, cuts, lower};
+use crate::shrink::{Shrinks, cuts, lower, packed_tokens, smaller_spans};
 use crate::tokens;
 use oracle::cases::Dice;
 use std::fmt::{Display, Formatter};
@@ -65,7 +65,14 @@ impl Shrinks for Case {
         let n = lower(self.n).map(|n| Case { n, ..self.clone() });
         let text = lower(self.text.len())
             .map(|length| Case { text: self.text[..length].to_vec(), ..self.clone() });
-        Box::new(tokens.chain(ragged).chain(n).chain(text))
+        let packed = packed_tokens(&self.text, &self.tokens).map(|(text, tokens)| Case {
+            text,
+            tokens,
+            ..self.clone()
+        });
+        let spans =
+            smaller_spans(&self.text, &self.tokens).map(|tokens| Case { tokens, ..self.clone() });
+        Box::new(tokens.chain(ragged).chain(n).chain(packed).chain(text).chain(spans))
     }
 }
 

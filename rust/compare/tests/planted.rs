@@ -30,6 +30,12 @@ fn numbers(difference: &Difference, line: &str) -> usize {
     line.split(|c: char| !c.is_ascii_digit()).filter(|part| !part.is_empty()).count()
 }
 
+/// How many bytes of text the smallest case has.
+fn bytes(difference: &Difference) -> usize {
+    let line = difference.smallest.strip_prefix("text of ").expect("a case starts with its text");
+    line.split(' ').next().and_then(|count| count.parse().ok()).expect("a number of bytes")
+}
+
 impl<F: Fn(&[u8], &[u32], &mut [u64], (u32, u64)) -> (u32, u64)> Reads for Faulty<F> {
     fn parse(&self, text: &[u8], tokens: &[u32], rows: &mut [u64]) -> (u32, u64) {
         let said = Rules.parse(text, tokens, rows);
@@ -43,20 +49,21 @@ impl<F: Fn(&[u8], &[u32], &mut [u64], (u32, u64)) -> (u32, u64)> Reads for Fault
     }
 }
 
-/// A fault of `parse` is found and comes down to a table of so many tokens.
+/// A fault of `parse` is found and comes down to so many tokens over so much text.
 fn parse_fault(
-    most: usize,
+    (tokens, text): (usize, usize),
     fault: impl Fn(&[u8], &[u32], &mut [u64], (u32, u64)) -> (u32, u64) + Send + Sync,
 ) {
     let side = Faulty(fault);
     let difference = found(Parse::of(&side), tokens::made);
     println!("{difference}");
-    assert!(numbers(&difference, "tokens:") <= 3 * most, "{difference}");
+    assert!(numbers(&difference, "tokens:") <= 3 * tokens, "{difference}");
+    assert!(bytes(&difference) <= text, "{difference}");
 }
 
 #[test]
 fn one_level_too_many() {
-    parse_fault(130, |text, tokens, rows, said| {
+    parse_fault((129, 0), |text, tokens, rows, said| {
         match plain::parse(text, tokens, rows.len() / 3, limit::LEVELS + 1) {
             Ok(made) => {
                 rows[..3 * made.len()].copy_from_slice(made.as_flattened());
@@ -69,7 +76,7 @@ fn one_level_too_many() {
 
 #[test]
 fn a_wrong_kind_of_row() {
-    parse_fault(3, |_, _, rows, (number, at)| {
+    parse_fault((3, 1), |_, _, rows, (number, at)| {
         let written = if number == 0 { 3 * at as usize } else { 0 };
         rows[..written].chunks_mut(3).for_each(|row| row[0] -= u64::from(row[0] == 24));
         (number, at)
@@ -78,7 +85,7 @@ fn a_wrong_kind_of_row() {
 
 #[test]
 fn a_row_that_is_not_cleared() {
-    parse_fault(1, |_, _, rows, (number, at)| {
+    parse_fault((0, 0), |_, _, rows, (number, at)| {
         if let (1.., Some(last)) = (number, rows.last_mut()) {
             *last = 1;
         }
@@ -88,7 +95,7 @@ fn a_row_that_is_not_cleared() {
 
 #[test]
 fn a_number_written_after_the_rows() {
-    parse_fault(1, |_, _, rows, (number, at)| {
+    parse_fault((1, 0), |_, _, rows, (number, at)| {
         if number == 0 && rows.len() > 3 * at as usize {
             rows[3 * at as usize] = 0;
         }
@@ -98,12 +105,12 @@ fn a_number_written_after_the_rows() {
 
 #[test]
 fn no_room_one_token_early() {
-    parse_fault(1, |_, _, _, (number, at)| (number, if number == 9 { at - 1 } else { at }));
+    parse_fault((1, 0), |_, _, _, (number, at)| (number, if number == 9 { at - 1 } else { at }));
 }
 
 #[test]
 fn a_span_that_wraps_round() {
-    parse_fault(1, |text, tokens, rows, said| {
+    parse_fault((1, 0), |text, tokens, rows, said| {
         let mut fitted = tokens.to_vec();
         for token in fitted.chunks_exact_mut(3) {
             if token[1].wrapping_add(token[2]) <= text.len() as u32 {
@@ -117,7 +124,7 @@ fn a_span_that_wraps_round() {
 
 #[test]
 fn a_large_integer_taken_for_a_float() {
-    parse_fault(1, |text, tokens, rows, (number, at)| {
+    parse_fault((1, 19), |text, tokens, rows, (number, at)| {
         let (start, length) = plain::spelled(text, tokens, at as usize);
         let bytes = &text[start as usize..][..length as usize];
         let digits = !bytes.is_empty() && bytes.iter().all(u8::is_ascii_digit);
@@ -133,7 +140,7 @@ fn a_large_integer_taken_for_a_float() {
 fn an_empty_part_at_the_start() {
     let side = Faulty(|_: &[u8], _: &[u32], _: &mut [u64], said| said);
     let difference = found(Spelled(&side), spelled::made);
-    assert_eq!(numbers(&difference, "tokens:"), 3, "{difference}");
+    assert_eq!((numbers(&difference, "tokens:"), bytes(&difference)), (3, 1), "{difference}");
 }
 
 /// What is done to an answer of `split`.
@@ -161,6 +168,7 @@ fn split_fault(
     let difference = found(Split::of(&side), split::made);
     println!("{difference}");
     assert!(numbers(&difference, "rows:") <= 3 * most, "{difference}");
+    assert_eq!(bytes(&difference), 0, "{difference}");
 }
 
 #[test]
@@ -175,7 +183,7 @@ fn literals_in_another_order() {
 
 #[test]
 fn a_list_written_before_it_is_refused() {
-    split_fault(3, |literals, _, said| {
+    split_fault(1, |literals, _, said| {
         if said.0 == 12 && literals.len() > 1 {
             literals[0] = 0;
         }
@@ -185,7 +193,8 @@ fn a_list_written_before_it_is_refused() {
 
 #[test]
 fn more_literals_than_allowed() {
-    split_fault(2_048, |_, _, said| if said.0 == 11 { (0, 0, 0) } else { said });
+    // A NOT over two chains of ORs, of 33 and 32 columns.
+    split_fault(130, |_, _, said| if said.0 == 11 { (0, 0, 0) } else { said });
 }
 
 #[test]
@@ -218,7 +227,8 @@ impl LooksUp for FaultyLookup {
 fn a_value_that_is_not_given_is_counted() {
     let difference = found(Lookup(&FaultyLookup), lookup::made);
     println!("{difference}");
-    assert!(numbers(&difference, "rows:") <= 15, "{difference}");
+    assert!(numbers(&difference, "rows:") <= 9, "{difference}");
+    assert!(difference.smallest.ends_with("clause 0, value 0"), "{difference}");
 }
 
 #[test]
