@@ -1,14 +1,9 @@
 //! Predicate rows in the shapes that are measured.
 
+pub use fontrisc::predicate::{AND, COLUMN, NOT, OR};
+
 /// A row.
 pub type Row = [u64; 3];
-
-/// The kinds that shapes are made of.
-pub const AND: u64 = 7;
-/// Or.
-pub const OR: u64 = 8;
-/// Not.
-pub const NOT: u64 = 9;
 
 /// A predicate under construction: complete subtrees one after another.
 #[derive(Clone, Default)]
@@ -22,16 +17,17 @@ impl Rows {
 
     /// Adds a column.
     pub fn column(&mut self, number: u64) -> u64 {
-        self.0.push([6, number, 0]);
+        self.0.push([COLUMN, number, 0]);
         self.last()
     }
 
     /// Adds `column = value`.
     #[cfg(any(split, lookup))]
     pub fn equal(&mut self, column: u64, value: u64) -> u64 {
+        use fontrisc::predicate::{EQUAL, INTEGER};
         let x = self.column(column);
-        self.0.push([3, value, 0]);
-        self.0.push([10, x, x + 1]);
+        self.0.push([INTEGER, value, 0]);
+        self.0.push([EQUAL, x, x + 1]);
         self.last()
     }
 

@@ -6,6 +6,7 @@
 //! until the end, so that no stack is used twice.
 
 use crate::shapes::{AND, NOT, OR, Rows, rows};
+use fontrisc::predicate::NEGATE;
 use oracle::cases::words;
 use std::collections::BTreeMap;
 use std::fs::File;
@@ -102,7 +103,10 @@ fn deep_predicates() -> Vec<(String, Vec<u64>)> {
         });
     }
     all.push(("NOT chain, 2,048 rows".to_string(), rows(|made| chain_of(made, NOT))));
-    all.push(("Negate chain (one atom), 2,048 rows".to_string(), rows(|made| chain_of(made, 20))));
+    all.push((
+        "Negate chain (one atom), 2,048 rows".to_string(),
+        rows(|made| chain_of(made, NEGATE)),
+    ));
     all.push(("AND chain with a NOT at each step".to_string(), rows(alternating)));
     all
 }

@@ -1,6 +1,8 @@
 //! Token tables under construction: what is pushed gets a span that suits it.
 
 use crate::parse::Case;
+pub use fontrisc::token::{ASTERISK, COMMA, EXCLAMATION, IDENT, IS, MINUS, NAN, NOT, NULL};
+pub use fontrisc::token::{CLOSE_PAREN as CLOSE, NUMBER, OPEN_PAREN as OPEN, PERIOD, PLUS, STRING};
 use oracle::cases::Dice;
 use oracle::plain::{self, limit};
 
@@ -64,23 +66,6 @@ pub const INFIX: [(u32, u32, u32); 16] = [
     (18, 7, 8),
     (19, 8, 8),
 ];
-
-/// Kinds by name, as far as cases are made of them.
-pub const NUMBER: u32 = 1;
-pub const STRING: u32 = 2;
-pub const IDENT: u32 = 3;
-pub const PLUS: u32 = 14;
-pub const MINUS: u32 = 15;
-pub const ASTERISK: u32 = 16;
-pub const EXCLAMATION: u32 = 20;
-pub const IS: u32 = 21;
-pub const NOT: u32 = 22;
-pub const NULL: u32 = 23;
-pub const NAN: u32 = 24;
-pub const OPEN: u32 = 28;
-pub const CLOSE: u32 = 29;
-pub const COMMA: u32 = 30;
-pub const PERIOD: u32 = 31;
 
 /// A case under construction: tokens whose spans lie anywhere in a text that
 /// was there before.

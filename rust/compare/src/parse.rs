@@ -5,7 +5,7 @@ use crate::included::{self, Verdict};
 use crate::lent::Lent;
 use crate::run::{Comparison, Outcome};
 use crate::shrink::{Shrinks, cuts, lower, packed_tokens, smaller_spans};
-use fontrisc::token::{CLOSE_PAREN, IDENT, OPEN_PAREN};
+use fontrisc::token::{CLOSE_PAREN, IDENT, NUMBER, OPEN_PAREN};
 use oracle::plain::{self, limit};
 use std::fmt::{Display, Formatter};
 
@@ -112,7 +112,7 @@ impl Shrinks for Case {
         let spans = (0..count).filter_map(|n| self.with_plain_span(n));
         let shorter =
             smaller_spans(&self.text, &self.tokens).map(|tokens| Case { tokens, ..self.clone() });
-        let tokens = tokens.chain(ragged);
+        let tokens = self.with_empty_spans().into_iter().chain(tokens).chain(ragged);
         Box::new(tokens.chain(slots).chain(packed).chain(text).chain(spans).chain(shorter))
     }
 }
@@ -158,6 +158,15 @@ impl Case {
     fn suited(&self, needed: usize) -> Option<Case> {
         let slots = (self.needed()? + self.slots).checked_sub(needed)?;
         (slots != self.slots).then(|| Case { slots, ..self.clone() })
+    }
+
+    /// The case with no bytes for any token but numbers, the only ones that are read
+    /// by their bytes.
+    fn with_empty_spans(&self) -> Option<Case> {
+        let mut tokens = self.tokens.clone();
+        let others = tokens.chunks_exact_mut(3).filter(|token| token[0] != NUMBER);
+        others.for_each(|token| token[1..].fill(0));
+        (tokens != self.tokens).then(|| Case { tokens, ..self.clone() })
     }
 
     /// The case with the first byte, or no bytes, as the span of a token.

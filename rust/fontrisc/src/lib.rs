@@ -28,7 +28,8 @@
 //! A call needs some of its thread's stack: [`stack`] says how much suffices. This
 //! was measured, at the deepest inputs there are, and nothing proves it. On a
 //! thread that has less left the operating system may stop the program, which is
-//! no panic and cannot be caught. Threads of Rust's library have 2 MB.
+//! no panic and cannot be caught. A thread that Rust's library starts has 2 MB, if
+//! nothing else is said.
 
 mod ffi;
 pub mod predicate;
