@@ -195,7 +195,7 @@ enum {
 /* Reads a token table as one expression and writes its syntax rows (FORMAT 4,
  * 5). `at` becomes the number of rows written, or the place of the refusal.
  * After a refusal every number of `rows` is 0. A `rows_len` of 3 * min(number of
- * tokens, FONTRISC_MAX_ROWS) always suffices: no token makes more than one row. */
+ * tokens, FONTRISC_MAX_ROWS) always suffices: there are no more rows than tokens. */
 uint32_t fontrisc_parse(
     const uint8_t *text, size_t text_len,
     const uint32_t *tokens, size_t tokens_len,
