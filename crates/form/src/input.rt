@@ -13,13 +13,15 @@ pub struct Unread {
 pub enum Next {
     Byte(u8, Unread),
     End,
+    Failed,
 }
 
-// A line that was read: how long it is, what is unread after it, and whether the input ended there.
+// A line that was read: how long it is, what is unread after it, whether the input ended there, and whether that is because a read failed.
 pub struct Line {
     pub length: usize,
     pub unread: Unread,
     pub ended: bool,
+    pub failed: bool,
 }
 
 // The next byte, from the chunk or from what is read into it next.
@@ -30,11 +32,21 @@ fn next_byte(fd: i32, chunk: &mut [u8], unread: Unread) -> Next {
         return Next::Byte(byte(chunk, at), Unread { at: at + 1, end });
     }
     let got = libc::read(fd, chunk);
+    if got < 0 {
+        return Next::Failed;
+    }
     let n = io::count(got, chunk);
     if n == 0 {
         return Next::End;
     }
     Next::Byte(byte(chunk, 0), Unread { at: 1, end: n })
+}
+
+fn has_failed(next: Next) -> bool {
+    match next {
+        Next::Failed => true,
+        _ => false,
+    }
 }
 
 // Writes a byte where there is a place for it.
@@ -52,11 +64,13 @@ pub fn read_line(fd: i32, chunk: &mut [u8], line: &mut [u8], unread: Unread) -> 
     let mut n = 0;
     let mut left: u64 = 18446744073709551615;
     while 0 < left {
-        let Next::Byte(b, after) = next_byte(fd, chunk, rest) else {
+        let next = next_byte(fd, chunk, rest);
+        let Next::Byte(b, after) = next else {
             return Line {
                 length: n,
                 unread: rest,
                 ended: true,
+                failed: has_failed(next),
             };
         };
         rest = after;
@@ -65,6 +79,7 @@ pub fn read_line(fd: i32, chunk: &mut [u8], line: &mut [u8], unread: Unread) -> 
                 length: n,
                 unread: rest,
                 ended: false,
+                failed: false,
             };
         }
         keep(line, n, b);
@@ -75,5 +90,6 @@ pub fn read_line(fd: i32, chunk: &mut [u8], line: &mut [u8], unread: Unread) -> 
         length: n,
         unread: rest,
         ended: true,
+        failed: false,
     }
 }

@@ -10,14 +10,15 @@ use form::scan::word_start;
 
 mod cases;
 
-// A line: copied, and followed by what there is to say of it if it is a case.
+// A line: copied, and followed by what there is to say of it if it is a case. Blanks before a comment are passed over, as before a case.
 fn show_line(line: &[u8], number: u64) {
-    if word_start(line, 0) == line.len() {
+    let start = word_start(line, 0);
+    if start == line.len() {
         return;
     }
     put(line);
     put(b"\n");
-    if byte(line, 0) != b'#' {
+    if byte(line, start) != b'#' {
         case(line, number);
         put(b"\n");
     }
@@ -32,25 +33,31 @@ fn show_read(line: &[u8], length: usize, number: u64) {
     }
 }
 
-// Every line.
-fn show_all(fd: i32, chunk: &mut [u8], line: &mut [u8]) {
+// Every line; answers whether a read failed. A line that it cut short is left out, and nothing is called after that read that could fail too.
+fn show_all(fd: i32, chunk: &mut [u8], line: &mut [u8]) -> bool {
     let mut unread = Unread { at: 0, end: 0 };
     let mut number: u64 = 0;
     while number < 18446744073709551615 {
         number += 1;
         let read = read_line(fd, chunk, line, unread);
+        if read.failed {
+            return true;
+        }
         show_read(line, read.length, number);
         if read.ended {
-            return;
+            return false;
         }
         unread = read.unread;
     }
+    false
 }
 
-fn show(fd: i32) {
+fn show(fd: i32, name: &[u8]) {
     let mut chunk = io::buffer();
     let mut line = io::large_buffer();
-    show_all(fd, &mut chunk, &mut line);
+    if show_all(fd, &mut chunk, &mut line) {
+        os::fail(name);
+    }
 }
 
 fn show_file(path: &[u8]) {
@@ -59,7 +66,7 @@ fn show_file(path: &[u8]) {
         os::fail(path);
         return;
     }
-    show(fd);
+    show(fd, path);
     libc::close(fd);
 }
 
@@ -74,10 +81,18 @@ fn show_named() {
     show_file(&path[..n]);
 }
 
+fn warn(what: &[u8]) {
+    io::write_all(libc::STDERR_FILENO, what);
+}
+
 fn main() {
-    if os::arg_count() < 2 {
-        show(libc::STDIN_FILENO);
-    } else {
-        show_named();
+    let words = os::arg_count();
+    if words < 2 {
+        show(libc::STDIN_FILENO, b"standard input");
+        return;
     }
+    if 2 < words {
+        warn(b"show takes one file: the first is shown, the others are not\n");
+    }
+    show_named();
 }

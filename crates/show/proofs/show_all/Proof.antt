@@ -21,9 +21,6 @@ add-number c = search needs
 read-line-requires : tie.Need-read-line-requires Inv-loop μ-loop
 read-line-requires c κs = search needs
 
-show-read-requires : tie.Need-show-read-requires Inv-loop μ-loop
-show-read-requires c κs = search needs
-
 same-length : tie.Need-same-length Inv-loop μ-loop
 same-length c = search needs
 
@@ -33,11 +30,8 @@ same-length-2 c = search needs
 returns : tie.Need-returns Inv-loop μ-loop
 returns c = search needs
 
-loop-less : tie.Need-loop-less Inv-loop μ-loop
-loop-less c = search needs
-
-loop-again : tie.Need-loop-again Inv-loop μ-loop
-loop-again c = search needs
+show-read-requires : tie.Need-show-read-requires Inv-loop μ-loop
+show-read-requires c κs = search needs
 
 same-length-3 : tie.Need-same-length-3 Inv-loop μ-loop
 same-length-3 c = search needs
@@ -48,6 +42,21 @@ same-length-4 c = search needs
 returns-2 : tie.Need-returns-2 Inv-loop μ-loop
 returns-2 c = search needs
 
+loop-less : tie.Need-loop-less Inv-loop μ-loop
+loop-less c = search needs
+
+loop-again : tie.Need-loop-again Inv-loop μ-loop
+loop-again c = search needs
+
+same-length-5 : tie.Need-same-length-5 Inv-loop μ-loop
+same-length-5 c = search needs
+
+same-length-6 : tie.Need-same-length-6 Inv-loop μ-loop
+same-length-6 c = search needs
+
+returns-3 : tie.Need-returns-3 Inv-loop μ-loop
+returns-3 c = search needs
+
 pub show-all-spec : {M : Type 1} → statement M
 show-all-spec =
     tie.close
@@ -57,12 +66,15 @@ show-all-spec =
     loop-holds
     add-number
     read-line-requires
-    show-read-requires
     same-length
     same-length-2
     returns
-    loop-less
-    loop-again
+    show-read-requires
     same-length-3
     same-length-4
-    returns-2)
+    returns-2
+    loop-less
+    loop-again
+    same-length-5
+    same-length-6
+    returns-3)

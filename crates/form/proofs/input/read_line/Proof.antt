@@ -17,11 +17,11 @@ loop-holds c = search needs
 next-byte-requires : tie.Need-next-byte-requires Inv-loop μ-loop
 next-byte-requires c κs = search needs
 
-enum-known-b : tie.Need-enum-known-b Inv-loop μ-loop
-enum-known-b c = search needs
+enum-known-next : tie.Need-enum-known-next Inv-loop μ-loop
+enum-known-next c = search needs
 
-enum-told : tie.Need-enum-told Inv-loop μ-loop
-enum-told c = search needs
+has-failed-requires : tie.Need-has-failed-requires Inv-loop μ-loop
+has-failed-requires c κs = search needs
 
 same-length : tie.Need-same-length Inv-loop μ-loop
 same-length c = search needs
@@ -73,8 +73,8 @@ read-line-spec =
     μ-loop
     loop-holds
     next-byte-requires
-    enum-known-b
-    enum-told
+    enum-known-next
+    has-failed-requires
     same-length
     same-length-2
     returns
