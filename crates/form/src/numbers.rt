@@ -9,12 +9,14 @@ ghost use lib.ListN.{length};
 
 pub enum Number {
     Is(u64),
+    TooLarge,
     Bad,
 }
 
-// How many numbers a line has, or where the word is that is none.
+// How many numbers a line has, or where the first word is that has more than 64 bits or is no number.
 pub enum Taken {
     All(usize),
+    TooLarge(usize, usize),
     Bad(usize, usize),
 }
 
@@ -45,10 +47,10 @@ fn tens(value: u64, d: u64) -> Number {
         if d <= 5 {
             Number::Is(18446744073709551610 + d)
         } else {
-            Number::Bad
+            Number::TooLarge
         }
     } else {
-        Number::Bad
+        Number::TooLarge
     }
 }
 
@@ -60,10 +62,10 @@ fn sixteens(value: u64, d: u64) -> Number {
     if value < 1152921504606846976 {
         return Number::Is(value * 16 + d);
     }
-    Number::Bad
+    Number::TooLarge
 }
 
-fn grown(value: u64, b: u8, hex: bool) -> Number {
+fn with_digit(value: u64, b: u8, hex: bool) -> Number {
     let d = digit(b);
     if hex {
         sixteens(value, d)
@@ -72,32 +74,38 @@ fn grown(value: u64, b: u8, hex: bool) -> Number {
     }
 }
 
+// What was read so far, after one more byte. What is too large stays so after any digit, as the largest number would.
+fn grown(so_far: Number, b: u8, hex: bool) -> Number {
+    match so_far {
+        Number::Is(value) => with_digit(value, b, hex),
+        Number::TooLarge => with_digit(18446744073709551615, b, hex),
+        Number::Bad => Number::Bad,
+    }
+}
+
 // The digits from `from` on, at least one.
 fn digits(word: &[u8], from: usize, hex: bool) -> Number {
     if word.len() <= from {
         return Number::Bad;
     }
-    let mut value: u64 = 0;
+    let mut number = Number::Is(0);
     let mut i = from;
     while i < word.len() {
-        let Number::Is(v) = grown(value, byte(word, i), hex) else {
-            return Number::Bad;
-        };
-        value = v;
+        number = grown(number, byte(word, i), hex);
         i += 1;
     }
-    Number::Is(value)
+    number
 }
 
 // The pattern of a number below 0, down to -2^63.
 fn negated(n: Number) -> Number {
     let Number::Is(v) = n else {
-        return Number::Bad;
+        return n;
     };
     if v <= 9223372036854775808 {
         Number::Is(std::num::wrapping_sub_u64(0, v))
     } else {
-        Number::Bad
+        Number::TooLarge
     }
 }
 
@@ -130,11 +138,14 @@ fn take_word(line: &[u8], start: usize, end: usize, out: &mut [u64], n: usize) -
     if start == end {
         return Taken::All(n);
     }
-    let Number::Is(value) = number_of(&line[start..end]) else {
-        return Taken::Bad(start, end);
-    };
-    keep(out, n, value);
-    Taken::All(one_more(n))
+    match number_of(&line[start..end]) {
+        Number::Is(value) => {
+            keep(out, n, value);
+            Taken::All(one_more(n))
+        }
+        Number::TooLarge => Taken::TooLarge(start, end),
+        Number::Bad => Taken::Bad(start, end),
+    }
 }
 
 // The numbers of a line from `from` on, as many as there are places for, and how many there are.
@@ -144,8 +155,9 @@ pub fn numbers_of(line: &[u8], from: usize, out: &mut [u64]) -> Taken {
     while at < line.len() {
         let start = word_start(line, at);
         let end = word_end(line, start);
-        let Taken::All(so) = take_word(line, start, end, out, n) else {
-            return Taken::Bad(start, end);
+        let taken = take_word(line, start, end, out, n);
+        let Taken::All(so) = taken else {
+            return taken;
         };
         n = so;
         at = end + 1;

@@ -76,6 +76,30 @@ pub fn word_end(s: &[u8], at: usize) -> usize
     run_end(s, at, false)
 }
 
+// Where the next word from `at` on starts, and `at` where there is none.
+fn next_word(s: &[u8], at: usize) -> usize
+    requires { ⌜ at ≤ length (now s) ⌝ }
+    ensures { λ r. ⌜ r ≤ length (now (s .entry)) ⌝ }
+{
+    let start = word_start(s, at);
+    if start == s.len() { at } else { start }
+}
+
+// Where word n from the end of a word on starts, counted from 0; where there are fewer, the end of the last.
+pub fn word_at(s: &[u8], from: usize, n: usize) -> usize
+    requires { ⌜ from ≤ length (now s) ⌝ }
+    ensures { λ r. ⌜ r ≤ length (now (s .entry)) ⌝ }
+{
+    let mut at = next_word(s, from);
+    let mut i = 0;
+    while i < n {
+        let end = word_end(s, at);
+        at = next_word(s, end);
+        i += 1;
+    }
+    at
+}
+
 // One more, as far as numbers go.
 pub fn one_more(n: usize) -> usize {
     if n < 18446744073709551615 { n + 1 } else { n }

@@ -13,14 +13,13 @@ use form::numbers::numbers_of;
 use form::scan::find;
 use form::scan::last;
 use form::scan::until;
+use form::scan::word_at;
 use form::scan::word_end;
 use form::scan::word_start;
 use form::words::tokens_of;
 use predicate::Checked;
 use syntax::Parsed;
 use tokens::refusal::Refusal;
-use tokens::table::count;
-use tokens::table::span_at;
 ghost use Prim.Native.Nat.{_≤_};
 ghost use lib.ListN.{length};
 
@@ -29,30 +28,22 @@ const TOKENS: usize = 4097;
 
 const ROWS: usize = 2049;
 
-// What stands before the caret: as much as before the token of the place, or the whole line and a space where there is no such token.
-fn before_caret(line: &[u8], tokens: &[u32], place: usize) {
-    if count(tokens) <= place {
-        blanks(line);
-        put(b" ");
-        return;
-    }
-    let span = span_at(line, tokens, place);
-    let start = span.start;
-    if start <= line.len() {
-        blanks(&line[0..start]);
-    }
-}
-
-fn caret(line: &[u8], tokens: &[u32], place: usize) {
-    before_caret(line, tokens, place);
+// Under a line: a caret below word n from `from` on, or right after the last word where there are fewer. A word is a token, and its quotes are part of it.
+fn caret(line: &[u8], from: usize, n: usize)
+    requires { ⌜ from ≤ length (now line) ⌝ }
+{
+    let at = word_at(line, from, n);
+    blanks(&line[0..at]);
     put(b"^\n");
 }
 
 // A parse that was refused. What is too long has no token to point at.
-fn refused_parse(line: &[u8], tokens: &[u32], why: Refusal, place: usize) {
+fn refused_parse(line: &[u8], from: usize, why: Refusal, place: usize)
+    requires { ⌜ from ≤ length (now line) ⌝ }
+{
     match why {
         Refusal::TooLong => {}
-        _ => caret(line, tokens, place),
+        _ => caret(line, from, place),
     }
     refused(why, b"token", place);
 }
@@ -71,22 +62,28 @@ fn drawn(family: Family, text: &[u8], tokens: &[u32], rows: &[u64], n: usize) {
     }
 }
 
-fn parse_tokens(line: &[u8], tokens: &[u32], rows: &mut [u64]) {
+fn parse_tokens(line: &[u8], from: usize, tokens: &[u32], rows: &mut [u64])
+    requires { ⌜ from ≤ length (now line) ⌝ }
+{
     match syntax::parse(line, tokens, rows) {
         Parsed::Rows(n) => drawn(Family::Syntax, line, tokens, rows, n),
-        Parsed::Refused(why, place) => refused_parse(line, tokens, why, place),
+        Parsed::Refused(why, place) => refused_parse(line, from, why, place),
     }
 }
 
-fn parse_with(line: &[u8], from: usize, table: &mut [u32], rows: &mut [u64]) {
+fn parse_with(line: &[u8], from: usize, table: &mut [u32], rows: &mut [u64])
+    requires { ⌜ from ≤ length (now line) ⌝ }
+{
     let n = tokens_of(line, from, table);
     if n <= table.len() {
-        parse_tokens(line, &table[0..n], rows);
+        parse_tokens(line, from, &table[0..n], rows);
     }
 }
 
 // The words from `from` on as an expression.
-fn parse_case(line: &[u8], from: usize) {
+fn parse_case(line: &[u8], from: usize)
+    requires { ⌜ from ≤ length (now line) ⌝ }
+{
     let mut table = [0u32; TOKENS * 3];
     let mut rows = [0u64; 6144];
     parse_with(line, from, &mut table, &mut rows);
@@ -117,8 +114,9 @@ fn least(n: usize, most: usize) -> usize
     if n <= most { n } else { most }
 }
 
-fn no_number(line: &[u8], start: usize, end: usize, number: u64) {
-    wrong(number, b"not a number: ");
+// A word among the rows that cannot be taken, and why.
+fn wrong_word(line: &[u8], start: usize, end: usize, number: u64, why: &[u8]) {
+    wrong(number, why);
     if start <= end {
         quoted(line, start, end - start);
     }
@@ -131,7 +129,14 @@ fn rows_with(text: &[u8], line: &[u8], from: usize, number: u64, rows: &mut [u64
             let end = least(n, rows.len());
             predicate(text, &rows[0..end]);
         }
-        Taken::Bad(start, end) => no_number(line, start, end, number),
+        Taken::TooLarge(start, end) => wrong_word(
+            line,
+            start,
+            end,
+            number,
+            b"too large for 64 bits: ",
+        ),
+        Taken::Bad(start, end) => wrong_word(line, start, end, number, b"not a number: "),
     }
 }
 

@@ -6,10 +6,10 @@ use Rattle.form.proofs.numbers.digits.Statement.{statement}
 use Rattle.form.proofs.numbers.digits.Tie as tie
 
 abbrev Inv-loop : tie.InvT-loop
-Inv-loop word from hex value₀ i₀ value i = i ≤ length word
+Inv-loop word from hex number₀ i₀ number i = i ≤ length word
 
 abbrev μ-loop : tie.MeasureT-loop
-μ-loop word from hex value₀ i₀ value i = length word - i
+μ-loop word from hex number₀ i₀ number i = length word - i
 
 returns : tie.Need-returns Inv-loop μ-loop
 returns c = search needs
@@ -23,15 +23,6 @@ byte-requires c κs = search needs
 grown-requires : tie.Need-grown-requires Inv-loop μ-loop
 grown-requires c κs = search needs
 
-enum-known-v : tie.Need-enum-known-v Inv-loop μ-loop
-enum-known-v c = search needs
-
-enum-told : tie.Need-enum-told Inv-loop μ-loop
-enum-told c = search needs
-
-returns-2 : tie.Need-returns-2 Inv-loop μ-loop
-returns-2 c = search needs
-
 add-i : tie.Need-add-i Inv-loop μ-loop
 add-i c = search needs
 
@@ -41,8 +32,8 @@ loop-less c = search needs
 loop-again : tie.Need-loop-again Inv-loop μ-loop
 loop-again c = search needs
 
-returns-3 : tie.Need-returns-3 Inv-loop μ-loop
-returns-3 c = search needs
+returns-2 : tie.Need-returns-2 Inv-loop μ-loop
+returns-2 c = search needs
 
 pub digits-spec : {M : Type 1} → statement M
 digits-spec =
@@ -54,10 +45,7 @@ digits-spec =
     loop-holds
     byte-requires
     grown-requires
-    enum-known-v
-    enum-told
-    returns-2
     add-i
     loop-less
     loop-again
-    returns-3)
+    returns-2)

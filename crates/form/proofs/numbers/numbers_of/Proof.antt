@@ -24,11 +24,8 @@ word-end-requires c κs = search needs
 take-word-requires : tie.Need-take-word-requires Inv-loop μ-loop
 take-word-requires c κs = search needs
 
-enum-known-so : tie.Need-enum-known-so Inv-loop μ-loop
-enum-known-so c = search needs
-
-enum-told : tie.Need-enum-told Inv-loop μ-loop
-enum-told c = search needs
+enum-known-taken : tie.Need-enum-known-taken Inv-loop μ-loop
+enum-known-taken c = search needs
 
 same-length : tie.Need-same-length Inv-loop μ-loop
 same-length c = search needs
@@ -61,8 +58,7 @@ numbers-of-spec =
     word-start-requires
     word-end-requires
     take-word-requires
-    enum-known-so
-    enum-told
+    enum-known-taken
     same-length
     returns
     add-at
