@@ -114,20 +114,20 @@ fn put_clauses(text: &[u8], rows: &[u64], literals: &[u32], ends: &[u32], count:
     }
 }
 
-fn list_with(text: &[u8], rows: &[u64], literals: &mut [u32], ends: &mut [u32]) {
+fn list_with(text: &[u8], rows: &[u64], line: u64, literals: &mut [u32], ends: &mut [u32]) {
     match clauses::split(text, rows, literals, ends) {
         Listed::Clauses(count, total) => {
             put_counts(count, total);
             put(b"\n");
             put_clauses(text, rows, literals, ends, count);
         }
-        Listed::Refused(why, at) => refused(why, b"row", at),
+        Listed::Refused(why, at) => refused(line, why, b"row", at),
     }
 }
 
-// The clauses of these rows.
-pub fn list(text: &[u8], rows: &[u64]) {
+// The clauses of these rows, which stand in this line.
+pub fn list(text: &[u8], rows: &[u64], line: u64) {
     let mut literals = [0u32; LITERALS];
     let mut ends = [0u32; CLAUSES];
-    list_with(text, rows, &mut literals, &mut ends);
+    list_with(text, rows, line, &mut literals, &mut ends);
 }

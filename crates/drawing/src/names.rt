@@ -1,4 +1,5 @@
 // The names of the format.
+use crate::out::at_line;
 use crate::out::decimal;
 use crate::out::put;
 use crate::out::put_part;
@@ -24,7 +25,7 @@ pub fn predicate_name(kind: u64) {
 // What a refusal means.
 fn reason(number: usize) {
     put_part(
-        b"?|more text, tokens or rows than are taken|a token of unknown kind or outside the text|something is missing after the last token|no operand starts with this token|another token is needed here|the expression has ended before this token|not a number, or one above 9223372036854775807|more than 64 levels|more than 2048 rows|not the rows of one tree|more than 1024 clauses or 8192 literals|a list is too short|not a lookup|no such clause or value",
+        b"?|more than 16384 bytes of text, 4096 tokens or 2048 rows|a token of unknown kind or outside the text|something is missing after the last token|no operand starts with this token|another token is needed here|the expression has ended before this token|not a number, or one above 9223372036854775807|more than 64 levels|more than 2048 rows|not the rows of one tree|more than 1024 clauses or 8192 literals|a list is too short|not a lookup|no such clause or value",
         b'|',
         number,
     );
@@ -39,14 +40,26 @@ fn refusal_name(n: u32) {
 }
 
 fn name_and_number(n: u32) {
-    put(b"  ");
     refusal_name(n);
     put(b" (");
     decimal(n as u64);
+    put(b")");
+}
+
+// Some refusals are of the whole, and their place says nothing.
+fn has_place(why: Refusal) -> bool {
+    match why {
+        Refusal::TooLong
+        | Refusal::TooMany
+        | Refusal::NoList
+        | Refusal::NotLookup
+        | Refusal::NoSuch => false,
+        _ => true,
+    }
 }
 
 fn at_place(what: &[u8], place: usize) {
-    put(b") at ");
+    put(b" at ");
     put(what);
     put(b" ");
     decimal(place as u64);
@@ -58,10 +71,13 @@ fn meaning(n: u32) {
     put(b"\n");
 }
 
-// A refusal: its name, its number, its place and what it means.
-pub fn refused(why: Refusal, what: &[u8], place: usize) {
+// A refusal: the line, its name, its number, its place if it has one, and what it means.
+pub fn refused(line: u64, why: Refusal, what: &[u8], place: usize) {
     let n = refusal::number_of(why);
+    at_line(line);
     name_and_number(n);
-    at_place(what, place);
+    if has_place(why) {
+        at_place(what, place);
+    }
     meaning(n);
 }

@@ -10,6 +10,13 @@ pub fn decimal(n: u64) {
     io::print_decimal(STDOUT_FILENO, n);
 }
 
+// Which line a message is of.
+pub fn at_line(number: u64) {
+    put(b"  line ");
+    decimal(number);
+    put(b": ");
+}
+
 // A float by its bits.
 pub fn bits(n: u64) {
     put(b"0x");

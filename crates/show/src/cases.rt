@@ -1,9 +1,9 @@
 // A case: an expression that is parsed, or a predicate that is split.
 use drawing::listing::list;
 use drawing::names::refused;
+use drawing::out::at_line;
 use drawing::out::blanks;
 use drawing::out::counted;
-use drawing::out::decimal;
 use drawing::out::put;
 use drawing::out::quoted;
 use drawing::tree::Family;
@@ -37,15 +37,23 @@ fn caret(line: &[u8], from: usize, n: usize)
     put(b"^\n");
 }
 
-// A parse that was refused. What is too long has no token to point at.
-fn refused_parse(line: &[u8], from: usize, why: Refusal, place: usize)
+// A refusal, with a caret below word n. What is too long has nothing to point at.
+fn refused_at(
+    line: &[u8],
+    from: usize,
+    n: usize,
+    number: u64,
+    why: Refusal,
+    what: &[u8],
+    place: usize,
+)
     requires { ⌜ from ≤ length (now line) ⌝ }
 {
     match why {
         Refusal::TooLong => {}
-        _ => caret(line, from, place),
+        _ => caret(line, from, n),
     }
-    refused(why, b"token", place);
+    refused(number, why, what, place);
 }
 
 fn put_count(n: usize) {
@@ -62,56 +70,59 @@ fn drawn(family: Family, text: &[u8], tokens: &[u32], rows: &[u64], n: usize) {
     }
 }
 
-fn parse_tokens(line: &[u8], from: usize, tokens: &[u32], rows: &mut [u64])
+fn parse_tokens(line: &[u8], from: usize, number: u64, tokens: &[u32], rows: &mut [u64])
     requires { ⌜ from ≤ length (now line) ⌝ }
 {
     match syntax::parse(line, tokens, rows) {
         Parsed::Rows(n) => drawn(Family::Syntax, line, tokens, rows, n),
-        Parsed::Refused(why, place) => refused_parse(line, from, why, place),
+        Parsed::Refused(why, place) => refused_at(line, from, place, number, why, b"token", place),
     }
 }
 
-fn parse_with(line: &[u8], from: usize, table: &mut [u32], rows: &mut [u64])
+fn parse_with(line: &[u8], from: usize, number: u64, table: &mut [u32], rows: &mut [u64])
     requires { ⌜ from ≤ length (now line) ⌝ }
 {
     let n = tokens_of(line, from, table);
     if n <= table.len() {
-        parse_tokens(line, from, &table[0..n], rows);
+        parse_tokens(line, from, number, &table[0..n], rows);
     }
 }
 
 // The words from `from` on as an expression.
-fn parse_case(line: &[u8], from: usize)
+fn parse_case(line: &[u8], from: usize, number: u64)
     requires { ⌜ from ≤ length (now line) ⌝ }
 {
     let mut table = [0u32; TOKENS * 3];
     let mut rows = [0u64; 6144];
-    parse_with(line, from, &mut table, &mut rows);
+    parse_with(line, from, number, &mut table, &mut rows);
 }
 
 // What a line has wrong.
 pub fn wrong(number: u64, what: &[u8]) {
-    put(b"  line ");
-    decimal(number);
-    put(b": ");
+    at_line(number);
     put(what);
-}
-
-fn predicate(text: &[u8], rows: &[u64]) {
-    let none = [0u32; 0];
-    match predicate::check(text, rows) {
-        Checked::Good(n) => {
-            drawn(Family::Predicate, text, &none, rows, n);
-            list(text, rows);
-        }
-        Checked::Refused(why, place) => refused(why, b"row", place),
-    }
 }
 
 fn least(n: usize, most: usize) -> usize
     ensures { λ r. ⌜ r ≤ most ⌝ }
 {
     if n <= most { n } else { most }
+}
+
+fn predicate(text: &[u8], line: &[u8], from: usize, number: u64, rows: &[u64])
+    requires { ⌜ from ≤ length (now line) ⌝ }
+{
+    let none = [0u32; 0];
+    match predicate::check(text, rows) {
+        Checked::Good(n) => {
+            drawn(Family::Predicate, text, &none, rows, n);
+            list(text, rows, number);
+        }
+        Checked::Refused(why, place) => {
+            let first = least(place, ROWS) * 3;
+            refused_at(line, from, first, number, why, b"row", place);
+        }
+    }
 }
 
 // A word among the rows that cannot be taken, and why.
@@ -123,11 +134,13 @@ fn wrong_word(line: &[u8], start: usize, end: usize, number: u64, why: &[u8]) {
     put(b"\n");
 }
 
-fn rows_with(text: &[u8], line: &[u8], from: usize, number: u64, rows: &mut [u64]) {
+fn rows_with(text: &[u8], line: &[u8], from: usize, number: u64, rows: &mut [u64])
+    requires { ⌜ from ≤ length (now line) ⌝ }
+{
     match numbers_of(line, from, rows) {
         Taken::All(n) => {
             let end = least(n, rows.len());
-            predicate(text, &rows[0..end]);
+            predicate(text, line, from, number, &rows[0..end]);
         }
         Taken::TooLarge(start, end) => wrong_word(
             line,
@@ -141,7 +154,9 @@ fn rows_with(text: &[u8], line: &[u8], from: usize, number: u64, rows: &mut [u64
 }
 
 // The numbers from `from` on as a predicate.
-fn rows_case(text: &[u8], line: &[u8], from: usize, number: u64) {
+fn rows_case(text: &[u8], line: &[u8], from: usize, number: u64)
+    requires { ⌜ from ≤ length (now line) ⌝ }
+{
     let mut rows = [0u64; ROWS * 3];
     rows_with(text, line, from, number, &mut rows);
 }
@@ -186,7 +201,7 @@ pub fn case(line: &[u8], number: u64) {
     let start = word_start(line, 0);
     let end = word_end(line, start);
     match opened(&line[start..end]) {
-        1 => parse_case(line, end),
+        1 => parse_case(line, end, number),
         2 => rows_case(b"", line, end, number),
         3 => text_case(line, end, number),
         _ => wrong(number, b"a case starts with parse, rows or text\n"),
