@@ -1,5 +1,6 @@
 // A line's words as tokens. This is no lexer: a word is one token, and what separates words is a blank.
 use crate::kinds::kind_of;
+use crate::scan::byte;
 use crate::scan::word_end;
 use crate::scan::word_start;
 use tokens::kind;
@@ -7,6 +8,12 @@ use tokens::table::Token;
 ghost use mathlib.Core.Path.{_≡_};
 ghost use Prim.Native.Nat.{_≤_};
 ghost use lib.ListN.{length};
+
+// A word that may be a typing mistake, from where to where, or none.
+pub enum Doubt {
+    At(usize, usize),
+    Nothing,
+}
 
 fn narrow(x: usize) -> u32 {
     (x % 4294967296) as u32
@@ -75,4 +82,46 @@ pub fn tokens_of(line: &[u8], from: usize, table: &mut [u32]) -> usize {
         at = end + 1;
     }
     n
+}
+
+// Is it a sign, a part of one, or a quote?
+fn is_mark(b: u8) -> bool {
+    match b {
+        b'!' | b'"' | b'%' | b'\''..=b'/' | b';'..=b'>' | b'^' => true,
+        _ => false,
+    }
+}
+
+fn has_mark(word: &[u8]) -> bool {
+    let mut i = 0;
+    while i < word.len() {
+        if is_mark(byte(word, i)) {
+            return true;
+        }
+        i += 1;
+    }
+    false
+}
+
+// Is a word a name with a sign or a quote in it? One was likely meant as several tokens.
+fn doubtful(word: &[u8]) -> bool {
+    if kind_of(word) == kind::IDENT {
+        has_mark(word)
+    } else {
+        false
+    }
+}
+
+// The first doubtful word from `from` on.
+pub fn first_doubt(line: &[u8], from: usize) -> Doubt {
+    let mut at = from;
+    while at < line.len() {
+        let start = word_start(line, at);
+        let end = word_end(line, start);
+        if doubtful(&line[start..end]) {
+            return Doubt::At(start, end);
+        }
+        at = end + 1;
+    }
+    Doubt::Nothing
 }

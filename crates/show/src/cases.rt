@@ -16,6 +16,8 @@ use form::scan::until;
 use form::scan::word_at;
 use form::scan::word_end;
 use form::scan::word_start;
+use form::words::Doubt;
+use form::words::first_doubt;
 use form::words::tokens_of;
 use predicate::Checked;
 use syntax::Parsed;
@@ -88,6 +90,24 @@ fn parse_with(line: &[u8], from: usize, number: u64, table: &mut [u32], rows: &m
     }
 }
 
+fn quoted_word(line: &[u8], start: usize, end: usize) {
+    if start <= end {
+        quoted(line, start, end - start);
+    }
+}
+
+// Says of the first name that holds a sign or a quote that it is a name.
+fn doubted(line: &[u8], from: usize, number: u64) {
+    match first_doubt(line, from) {
+        Doubt::At(start, end) => {
+            at_line(number);
+            quoted_word(line, start, end);
+            put(b" is one name here; part words and signs with blanks\n");
+        }
+        Doubt::Nothing => {}
+    }
+}
+
 // The words from `from` on as an expression.
 fn parse_case(line: &[u8], from: usize, number: u64)
     requires { ⌜ from ≤ length (now line) ⌝ }
@@ -95,6 +115,7 @@ fn parse_case(line: &[u8], from: usize, number: u64)
     let mut table = [0u32; TOKENS * 3];
     let mut rows = [0u64; 6144];
     parse_with(line, from, number, &mut table, &mut rows);
+    doubted(line, from, number);
 }
 
 // What a line has wrong.
@@ -128,9 +149,7 @@ fn predicate(text: &[u8], line: &[u8], from: usize, number: u64, rows: &[u64])
 // A word among the rows that cannot be taken, and why.
 fn wrong_word(line: &[u8], start: usize, end: usize, number: u64, why: &[u8]) {
     wrong(number, why);
-    if start <= end {
-        quoted(line, start, end - start);
-    }
+    quoted_word(line, start, end);
     put(b"\n");
 }
 
