@@ -85,7 +85,7 @@ fn next_word(s: &[u8], at: usize) -> usize
     if start == s.len() { at } else { start }
 }
 
-// Where word n from the end of a word on starts, counted from 0; where there are fewer, the end of the last.
+// Where word n from `from` on starts, counted from 0 and from the end of a word; where there are fewer, where the last one ends.
 pub fn word_at(s: &[u8], from: usize, n: usize) -> usize
     requires { ⌜ from ≤ length (now s) ⌝ }
     ensures { λ r. ⌜ r ≤ length (now (s .entry)) ⌝ }

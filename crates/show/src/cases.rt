@@ -102,7 +102,7 @@ fn doubted(line: &[u8], from: usize, number: u64) {
         Doubt::At(start, end) => {
             at_line(number);
             quoted_word(line, start, end);
-            put(b" is one name here; part words and signs with blanks\n");
+            put(b" is one name here; blanks part words and signs, and a String holds none\n");
         }
         Doubt::Nothing => {}
     }

@@ -33,7 +33,7 @@ fn show_read(line: &[u8], length: usize, number: u64) {
     }
 }
 
-// Every line; answers whether a read failed. A line that it cut short is left out, and nothing is called after that read that could fail too.
+// Every line; answers whether a read failed. It then returns at once, while errno still says why, and leaves out the line that was cut short.
 fn show_all(fd: i32, chunk: &mut [u8], line: &mut [u8]) -> bool {
     let mut unread = Unread { at: 0, end: 0 };
     let mut number: u64 = 0;
