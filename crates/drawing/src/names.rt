@@ -46,16 +46,9 @@ fn name_and_number(n: u32) {
     put(b")");
 }
 
-// Some refusals are of the whole, and their place says nothing.
-fn has_place(why: Refusal) -> bool {
-    match why {
-        Refusal::TooLong
-        | Refusal::TooMany
-        | Refusal::NoList
-        | Refusal::NotLookup
-        | Refusal::NoSuch => false,
-        _ => true,
-    }
+// TOO_LONG, and those from TOO_MANY on, are of the whole: their place is always 0.
+fn has_place(n: u32) -> bool {
+    if n == 1 { false } else { n < 11 }
 }
 
 fn at_place(what: &[u8], place: usize) {
@@ -76,7 +69,7 @@ pub fn refused(line: u64, why: Refusal, what: &[u8], place: usize) {
     let n = refusal::number_of(why);
     at_line(line);
     name_and_number(n);
-    if has_place(why) {
+    if has_place(n) {
         at_place(what, place);
     }
     meaning(n);
