@@ -82,7 +82,8 @@ pub fn clauses(text: &[u8], rows: &[u64], count: u64) -> Option<Vec<Clause>> {
     small.then(|| oracle::expression::split_here(text, rows))
 }
 
-/// Holds the clauses of a predicate to those of the expression source.
+/// Holds the clauses of a predicate to those of the expression source: first
+/// their literals, which go by the atoms' rows, then what its atoms are by then.
 pub fn splitting(made: &[Clause], literals: &[u32], ends: &[u32]) -> Verdict {
     let lists: Option<Vec<&Vec<u64>>> = made.iter().map(|c| c.literals.as_ref()).collect();
     let Some(lists) = lists else {
@@ -98,7 +99,12 @@ pub fn splitting(made: &[Clause], literals: &[u32], ends: &[u32]) -> Verdict {
             start = *end as usize;
             ours.eq(list.iter().copied())
         });
-    if same { Verdict::Same } else { Verdict::Other(format!("{lists:?}")) }
+    match (same, made.iter().any(|c| c.altered)) {
+        (true, false) => Verdict::Same,
+        // The same literals, but something below an atom was rewritten.
+        (true, true) => Verdict::Class(16),
+        (false, _) => Verdict::Other(format!("{lists:?}")),
+    }
 }
 
 /// Holds a lookup to the expression source's: column and count, none if it is
