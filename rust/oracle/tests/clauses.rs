@@ -11,12 +11,14 @@ use oracle::plain::{self, limit};
 type Left = (bool, bool);
 
 /// Compares the lists of one tree. They agree where the included source leaves
-/// nothing; answers what it left.
+/// nothing, and their atoms where it rewrites nothing inside them; answers what
+/// it left.
 fn compare(tree: &Tree) -> Left {
     let made = lay(tree);
     let expected = plain::split(&made.text, &made.rows).expect("a small tree");
     let clauses = expression::split(&made.text, &made.rows);
     let left = (clauses.iter().any(|c| c.and_left), clauses.iter().any(|c| c.not_left));
+    assert_eq!(clauses.iter().any(|c| c.altered), altered_below(tree), "{tree:?}");
     let lists: Option<Vec<Vec<u64>>> = clauses.into_iter().map(|c| c.literals).collect();
     match lists {
         Some(lists) => {
@@ -94,6 +96,33 @@ fn has_and(tree: &Tree) -> bool {
     }
 }
 
+/// Whether the source will rewrite something inside an atom, told from the tree
+/// alone.
+fn altered_below(tree: &Tree) -> bool {
+    match tree {
+        Tree::Unary(9, inner) => altered_below(inner),
+        Tree::Binary(7 | 8, left, right) => altered_below(left) || altered_below(right),
+        atom => is_rewritten(atom),
+    }
+}
+
+/// Whether there is a NOT of a NOT, an AND or an OR in a tree, or an OR of an AND.
+fn is_rewritten(tree: &Tree) -> bool {
+    let has = |t: &Tree, kinds: &[u64]| match t {
+        Tree::Unary(kind, _) | Tree::Binary(kind, ..) => kinds.contains(kind),
+        _ => false,
+    };
+    match tree {
+        Tree::Unary(kind, inner) => (*kind == 9 && has(inner, &[7, 8, 9])) || is_rewritten(inner),
+        Tree::Binary(kind, left, right) => {
+            let over_and = *kind == 8 && (has(left, &[7]) || has(right, &[7]));
+            over_and || is_rewritten(left) || is_rewritten(right)
+        }
+        Tree::Is(inner, _) => is_rewritten(inner),
+        _ => false,
+    }
+}
+
 /// Compares many trees and holds each to the prediction.
 fn compare_all(name: &str, trees: &[Tree]) {
     let (mut ands, mut nots, mut shared) = (0, 0, 0);
@@ -130,6 +159,27 @@ fn random_trees() {
         .filter(small)
         .collect();
     compare_all("random", &trees);
+}
+
+#[test]
+fn rewriting_inside_atoms_is_told_from_the_tree() {
+    let rounds = if cfg!(debug_assertions) { 500 } else { 30_000 };
+    let atom = |dice: &mut Dice| {
+        let depth = dice.below(4);
+        let inside =
+            random_tree(dice, depth, &|dice: &mut Dice| Tree::Column(dice.below(4) as u64));
+        match dice.below(4) {
+            0 => is(inside, 1),
+            1 => equal(Tree::Null, inside),
+            2 => Tree::Unary(18, Box::new(inside)),
+            _ => random_atom(dice),
+        }
+    };
+    let mut dice = Dice::new(22);
+    let trees: Vec<Tree> = (0..rounds).map(|n| random_tree(&mut dice, n % 4, &atom)).collect();
+    let rewritten = trees.iter().filter(|tree| altered_below(tree)).count();
+    assert!(rewritten > rounds / 10 && rewritten < rounds * 9 / 10, "{rewritten}");
+    compare_all("inside atoms", &trees);
 }
 
 /// The Kleene value of a tree whose atoms are columns, by their cells.

@@ -216,3 +216,44 @@ fn class_15_is_nan_of_no_float() {
         assert_eq!(truths(&atom, &cell), (Kleene::False, Evaluated::Refused));
     }
 }
+
+/// The included source's only element of a tree, which must have the format's
+/// literals and yet another atom behind them: as it stands, and as it should be.
+fn rewritten(tree: &Tree) -> [String; 2] {
+    let made = lay(tree);
+    let expected = clauses(tree).expect("a small predicate");
+    let clause = elements(tree).remove(0);
+    assert_eq!(vec![clause.literals.unwrap()], expected);
+    assert!(clause.altered);
+    let tree = expression::tree_of(&made.text, &made.rows);
+    let mut elements = tree.clone().into_cnf_vec();
+    assert_eq!(elements.len(), 1);
+    [format!("{:?}", elements.remove(0)), format!("{tree:?}")]
+}
+
+#[test]
+fn class_16_rewriting_below_atoms() {
+    let plus = |tree: Tree| Tree::Unary(18, Box::new(tree));
+    let [a, b, c] = [0, 1, 2].map(Tree::Column);
+    let smallest = plus(not(not(a.clone())));
+    assert_eq!(lay(&smallest).rows, [6, 0, 0, 9, 0, 0, 9, 1, 0, 18, 2, 0]);
+    assert_eq!(clauses(&smallest), Ok(vec![vec![6]]));
+    assert_eq!(
+        rewritten(&smallest),
+        ["Identity(Column(0))", "Identity(Not(Not(Column(0))))"].map(str::to_string)
+    );
+    // A NOT moves down, and an OR is distributed.
+    let negated = rewritten(&plus(not(and(a.clone(), b.clone()))));
+    assert_eq!(negated[0], "Identity(Or(Not(Column(0)), Not(Column(1))))");
+    let distributed = rewritten(&plus(or(and(a, b), c)));
+    let each = "Or(Column(0), Column(2)), Or(Column(1), Column(2))";
+    assert_eq!(distributed[0], format!("Identity(And({each}))"));
+    // So an atom that would be an error can have a value.
+    let of_one = |atom: &Tree| {
+        let made = lay(atom);
+        let literal = 2 * (made.rows.len() as u64 / 3 - 1);
+        evaluate(&made.text, &made.rows, literal, &[Value::Integer(1)])
+    };
+    assert_eq!(of_one(&is(not(not(Tree::Column(0))), 0)), Evaluated::Refused);
+    assert_eq!(of_one(&is(Tree::Column(0), 0)), Evaluated::Truth(Kleene::False));
+}
