@@ -108,9 +108,13 @@ fn shared_clauses(input: &Predicate) -> Option<Vec<expression::Clause>> {
     (literals? == expected).then_some(clauses)
 }
 
-/// The line of a predicate with the included source's clauses.
+/// The line of a predicate with the included source's clauses; none if it has
+/// rewritten an atom inside.
 pub fn split_line(input: &Predicate) -> Option<String> {
     let clauses = shared_clauses(input)?;
+    if clauses.iter().any(|clause| clause.altered) {
+        return None;
+    }
     let mut line = predicate("S", input);
     line.push_str(" C");
     numbers(&mut line, [clauses.len() as u64]);
