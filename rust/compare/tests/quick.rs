@@ -94,6 +94,7 @@ mod splitting {
     fn split_by_chance() {
         let tally = holds(|| run::by_chance(&mut Split::of(&Library), cases(30_000), made));
         came_up(&tally, &[1, 10, 11, 12]);
+        assert_ne!(tally.classes[16], 0, "no atom was rewritten inside");
     }
 }
 
