@@ -33,8 +33,8 @@ pub fn parse(text: &[u8], tokens: &[u32], rows: &mut [u64]) -> Result<usize, Ref
     }
 }
 
-/// The bytes of token `n`, as a part of the text (FORMAT §2.6). Where the table
-/// has no such token, or its span does not fit, the empty part at the start.
+/// The bytes of token `n`, as a part of the text (FORMAT §2.6). If there is no
+/// token `n`, or its span leaves the text, it is empty and begins at byte 0.
 ///
 /// Stack: next to nothing.
 ///

@@ -24,9 +24,10 @@ macro_rules! errinput {
     }};
 }
 
+/// What `errinput!` leaves to its caller: an error, or a result that is one.
 impl<T> From<Error> for Result<T> {
-    fn from(error: Error) -> Self {
-        Err(error)
+    fn from(made: Error) -> Self {
+        Self::Err(made)
     }
 }
 
