@@ -1,4 +1,5 @@
 -- `Matching` has the theorem: a lookup keeps exactly the right cells. `Worlds` says that it and the theorem of `split` speak of the same values.
+pub mod Turned
 pub mod Matching
 pub mod Worlds
 pub mod Counting

@@ -2,25 +2,26 @@
 -- its values. `literal-test` says that the test which stands for a literal has the literal's value.
 -- Assumes nothing.
 use mathlib.Core.Path.{_≡_, refl, sym, ap, ap₂, _∙_}
-use Prim.Native.Nat.{ℕ, _*_}
-use mathlib.Core.Bool.{Bool, true, false, _&&_, _||_, Bool·beq, or-false, or-assoc, and-false, and-true}
+use Prim.Native.Nat.{ℕ}
+use mathlib.Core.Bool.{Bool, true, false, _&&_, _||_, or-false, or-assoc, and-false, and-true}
 use mathlib.Core.List.{List, [], _∷_, _++_, map}
 use native.Mathlib.Omega.{arith}
-use borrow.Author.Tests.{eqb-true, eqb-false, eq-eqb, ne-eqb}
+use borrow.Author.Tests.{eqb-true}
 use lib.Dec.{eqb, leb}
-use lib.IntN.{ℤ, pos, negsuc}
-use lib.Ieee.{Float, nan, inf, fin, eq, level, up, down, isNan}
+use lib.Ieee.{Float, nan, inf, fin, eq, isNan}
 use Rattle.predicate.specs.Kind as kind
 use Rattle.predicate.specs.Tree.{Tree, leaf, unary, binary, both, either, negate}
 use Rattle.normal.specs.Kleene as kleene
 use Rattle.normal.specs.Clause.{Literal, literal}
 use Rattle.values.specs.Value.{valueOf, undefined}
-use Rattle.lookup.specs.Cell.{Cell, null, boolean, integer, float, string, cellOf, isNull, isNaN, sameInteger, sameBytes, same, truth, isTrue, equal, is, matches}
+use Rattle.lookup.specs.Cell.{Cell, null, boolean, integer, float, string, cellOf, isNull, isNaN, same, truth, isTrue, equal, is, matches}
 use Rattle.columns.specs.Lookup.{leafOf, isColumn, isConstant, equalOf, isOf, testOf, on, none, testIn, tests, allTest, valueIn, valuesIn, lookOn, lookFrom, lookIn, lookOf}
+use Rattle.lookup.proofs.Turned.{equal-turned}
 use Rattle.lookup.specs.Meaning.{World, cellIn, predicateValue, literalValue, clauseValue, anyMatch}
 use Rattle.rows.specs.declared.Row.{Row}
 use Rattle.columns.specs.declared.test.Test.{Test}
 use Rattle.columns.specs.declared.test.Test.the-variants.{Other, Equals, Is}
+use Rattle.values.proofs.Constants.{both-true}
 use Rattle.values.specs.declared.Value.{Value}
 use Rattle.values.specs.declared.Value.the-variants as value
 
@@ -63,93 +64,9 @@ true-or kleene.NULL kleene.NULL = refl
 true-or kleene.NULL kleene.TRUE = refl
 true-or kleene.TRUE w = refl
 
-and-first : (a b : Bool) → (a && b) ≡ true → a ≡ true
-and-first true b e = refl
-and-first false b e = e
-
-and-second : (a b : Bool) → (a && b) ≡ true → b ≡ true
-and-second true b e = e
-and-second false b e = let z : _≡_ {A = ℕ} 0 1 = cc in absurd (omega arith)
-
--- ---- Equal does not mind which side is which
-
+-- no test
 false-true : {A : Type 0} → false ≡ true → A
 false-true e = let z : _≡_ {A = ℕ} 0 1 = cc in absurd (omega arith)
-
-eqb-turned : (m n : ℕ) → eqb m n ≡ eqb n m
-eqb-turned m n = by (eqb m n) refl
-  where
-    by : (b : Bool) → eqb m n ≡ b → b ≡ eqb n m
-    by true e = sym (eq-eqb n m (sym (eqb-true m n e)))
-    by false e = sym (ne-eqb n m (λ f. eqb-false m n e (sym f)))
-
-beq-turned : (a b : Bool) → Bool·beq a b ≡ Bool·beq b a
-beq-turned true true = refl
-beq-turned true false = refl
-beq-turned false true = refl
-beq-turned false false = refl
-
-level-turned : (s : Bool) (m : ℕ) (t : Bool) (n : ℕ) → level s m t n ≡ level t n s m
-unfolding level
-level-turned s m t n = by (eqb m n) refl
-  where
-    by : (b : Bool) → eqb m n ≡ b → (b && (Bool·beq s t || eqb m 0)) ≡ level t n s m
-    by true e = ap₂ _||_ (beq-turned s t) (ap (λ (i : ℕ). eqb i 0) (eqb-true m n e)) ∙ sym (rw (sym (eqb-turned m n) ∙ e, level))
-    by false e = sym (rw (sym (eqb-turned m n) ∙ e, level))
-
-float-turned : (x y : Float) → eq x y ≡ eq y x
-unfolding eq
-float-turned nan nan = refl
-float-turned nan (inf t) = refl
-float-turned nan (fin t n d) = refl
-float-turned (inf s) nan = refl
-float-turned (inf s) (inf t) = beq-turned s t
-float-turned (inf s) (fin t n d) = refl
-float-turned (fin s m e) nan = refl
-float-turned (fin s m e) (inf t) = refl
-float-turned (fin s m e) (fin t n d) = level-turned s (m * up e * down d) t (n * up d * down e)
-
-integer-turned : (a b : ℤ) → sameInteger a b ≡ sameInteger b a
-unfolding sameInteger
-integer-turned (pos m) (pos n) = eqb-turned m n
-integer-turned (pos m) (negsuc n) = refl
-integer-turned (negsuc m) (pos n) = refl
-integer-turned (negsuc m) (negsuc n) = eqb-turned m n
-
-bytes-turned : (a b : List ℕ) → sameBytes a b ≡ sameBytes b a
-unfolding sameBytes
-bytes-turned [] [] = refl
-bytes-turned [] (b ∷ t) = refl
-bytes-turned (a ∷ s) [] = refl
-bytes-turned (a ∷ s) (b ∷ t) = ap₂ _&&_ (eqb-turned a b) (bytes-turned s t)
-
-equal-turned : (a b : Cell) → equal a b ≡ equal b a
-unfolding equal same isNull
-equal-turned null null = refl
-equal-turned null (boolean c) = refl
-equal-turned null (integer n) = refl
-equal-turned null (float x) = refl
-equal-turned null (string s) = refl
-equal-turned (boolean a) null = refl
-equal-turned (boolean a) (boolean c) = ap truth (beq-turned a c)
-equal-turned (boolean a) (integer n) = refl
-equal-turned (boolean a) (float x) = refl
-equal-turned (boolean a) (string s) = refl
-equal-turned (integer a) null = refl
-equal-turned (integer a) (boolean c) = refl
-equal-turned (integer a) (integer n) = ap truth (integer-turned a n)
-equal-turned (integer a) (float x) = refl
-equal-turned (integer a) (string s) = refl
-equal-turned (float a) null = refl
-equal-turned (float a) (boolean c) = refl
-equal-turned (float a) (integer n) = refl
-equal-turned (float a) (float x) = ap truth (float-turned a x)
-equal-turned (float a) (string s) = refl
-equal-turned (string a) null = refl
-equal-turned (string a) (boolean c) = refl
-equal-turned (string a) (integer n) = refl
-equal-turned (string a) (float x) = refl
-equal-turned (string a) (string s) = ap truth (bytes-turned a s)
 
 -- ---- tests
 
@@ -199,13 +116,13 @@ module _ (text : List ℕ) (world : World) where
             ≡ testValue text (world .column c) (elim p [ true ↦ Equals (leafOf a .x) (leafOf b) | false ↦ elim q [ true ↦ Equals (leafOf b .x) (leafOf a) | false ↦ Other ] ])
         by true q f g h =
             ap₂ equal
-            (column-cell a (and-first (isColumn (leafOf a)) (isConstant (leafOf b)) f) ∙ ap (world .column) (sym (eqb-true c (leafOf a .x) h)))
-            (constant-cell b (and-second (isColumn (leafOf a)) (isConstant (leafOf b)) f))
+            (column-cell a (both-true (isColumn (leafOf a)) (isConstant (leafOf b)) f .0) ∙ ap (world .column) (sym (eqb-true c (leafOf a .x) h)))
+            (constant-cell b (both-true (isColumn (leafOf a)) (isConstant (leafOf b)) f .1))
         by false true f g h =
             equal-turned (cellIn text world a) (cellIn text world b)
             ∙ ap₂ equal
-            (column-cell b (and-first (isColumn (leafOf b)) (isConstant (leafOf a)) g) ∙ ap (world .column) (sym (eqb-true c (leafOf b .x) h)))
-            (constant-cell a (and-second (isColumn (leafOf b)) (isConstant (leafOf a)) g))
+            (column-cell b (both-true (isColumn (leafOf b)) (isConstant (leafOf a)) g .0) ∙ ap (world .column) (sym (eqb-true c (leafOf b .x) h)))
+            (constant-cell a (both-true (isColumn (leafOf b)) (isConstant (leafOf a)) g .1))
         by false false f g h = false-true h
 
     is-value : (a : Tree) (y : ℕ) → tests c (isOf (leafOf a) y) ≡ true → is y (cellIn text world a) ≡ testValue text (world .column c) (isOf (leafOf a) y)
@@ -310,11 +227,11 @@ module _ (text : List ℕ) (world : World) where
   unfolding allTest clauseValue valuesIn anyMatch
   all-match c [] e = refl
   all-match c (l ∷ ls) e =
-      let this = and-first (tests c (testIn l)) (allTest c (map testIn ls)) e in
+      let this = both-true (tests c (testIn l)) (allTest c (map testIn ls)) e .0 in
       true-or (literalValue text world l) (clauseValue text world ls)
       ∙ ap₂ _||_
       (ap isTrue (literal-test text world c l this) ∙ test-matches text (world .column c) c (testIn l) this)
-      (all-match c ls (and-second (tests c (testIn l)) (allTest c (map testIn ls)) e))
+      (all-match c ls (both-true (tests c (testIn l)) (allTest c (map testIn ls)) e .1))
       ∙ sym (any-append text (world .column c) (valueIn (testIn l)) (valuesIn (map testIn ls)))
 
   look-on : (c d : ℕ) (ls : List Literal) (vs : List Value) → lookOn d (map testIn ls) ≡ on c vs →

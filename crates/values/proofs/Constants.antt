@@ -17,7 +17,7 @@ use Rattle.predicate.specs.Row.{among, classes, classIn, classOf, allowedOf}
 use Rattle.values.specs.Value.{signedOf, patternOf, valueBy, valueOf, rowOf}
 use Rattle.values.proofs.Values.{nan-bits, no-nan-bits}
 
-both-true : (a b : Bool) → (a && b) ≡ true → (a ≡ true) × (b ≡ true)
+pub both-true : (a b : Bool) → (a && b) ≡ true → (a ≡ true) × (b ≡ true)
 both-true true true e = (refl, refl)
 both-true true false e = let z : _≡_ {A = ℕ} 0 1 = cc in absurd (omega arith)
 both-true false b e = let z : _≡_ {A = ℕ} 0 1 = cc in absurd (omega arith)
