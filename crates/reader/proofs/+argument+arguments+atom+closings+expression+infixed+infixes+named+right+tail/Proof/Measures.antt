@@ -1,7 +1,8 @@
 -- The measures of the cycle: the levels left, and a rank of each member below its callers' at the same level.
 -- Assumes nothing.
 use Prim.Native.Nat.{ℕ, _+_, _-_, _*_, _<_}
-use borrow.Fn.Kinds.{In}
+use mathlib.Core.List.{List}
+use borrow.Fn.Kinds.{In, PK}
 use borrow.Fn.PlainCycle.{Measures, is, falls, and}
 use Rattle.reader.proofs.argument.Reads as argument
 use Rattle.reader.proofs.arguments.Reads as arguments
@@ -54,67 +55,69 @@ abbrev pub μ-right : Measures 3 right-kinds.ps ℕ
 abbrev pub μ-tail : Measures 3 tail-kinds.ps ℕ
 μ-tail κs a = 8 * a .1 .1 .1 .1 .0 + 4
 
+-- a member where its measure is t, and where it is less
+abbrev at : (ps : List (PK 3)) → Measures 3 ps ℕ → In 3 ps → ℕ → In 3 ps
+at ps μ pre t = and 3 ps (is 3 ps μ t) pre
+
+abbrev below : (ps : List (PK 3)) → Measures 3 ps ℕ → In 3 ps → ℕ → In 3 ps
+below ps μ pre t = and 3 ps (falls 3 ps _<_ μ t) pre
+
 abbrev pub argument-at : ℕ → In 3 argument-kinds.ps
-argument-at t = and 3 argument-kinds.ps (is 3 argument-kinds.ps μ-argument t) argument.Pre
+argument-at = at argument-kinds.ps μ-argument argument.Pre
 
 abbrev pub argument-below : ℕ → In 3 argument-kinds.ps
-argument-below t =
-    and 3 argument-kinds.ps (falls 3 argument-kinds.ps _<_ μ-argument t) argument.Pre
+argument-below = below argument-kinds.ps μ-argument argument.Pre
 
 abbrev pub arguments-at : ℕ → In 3 arguments-kinds.ps
-arguments-at t = and 3 arguments-kinds.ps (is 3 arguments-kinds.ps μ-arguments t) arguments.Pre
+arguments-at = at arguments-kinds.ps μ-arguments arguments.Pre
 
 abbrev pub arguments-below : ℕ → In 3 arguments-kinds.ps
-arguments-below t =
-    and 3 arguments-kinds.ps (falls 3 arguments-kinds.ps _<_ μ-arguments t) arguments.Pre
+arguments-below = below arguments-kinds.ps μ-arguments arguments.Pre
 
 abbrev pub atom-at : ℕ → In 3 atom-kinds.ps
-atom-at t = and 3 atom-kinds.ps (is 3 atom-kinds.ps μ-atom t) atom.Pre
+atom-at = at atom-kinds.ps μ-atom atom.Pre
 
 abbrev pub atom-below : ℕ → In 3 atom-kinds.ps
-atom-below t = and 3 atom-kinds.ps (falls 3 atom-kinds.ps _<_ μ-atom t) atom.Pre
+atom-below = below atom-kinds.ps μ-atom atom.Pre
 
 abbrev pub closings-at : ℕ → In 3 closings-kinds.ps
-closings-at t = and 3 closings-kinds.ps (is 3 closings-kinds.ps μ-closings t) closings.Pre
+closings-at = at closings-kinds.ps μ-closings closings.Pre
 
 abbrev pub closings-below : ℕ → In 3 closings-kinds.ps
-closings-below t =
-    and 3 closings-kinds.ps (falls 3 closings-kinds.ps _<_ μ-closings t) closings.Pre
+closings-below = below closings-kinds.ps μ-closings closings.Pre
 
 abbrev pub expression-at : ℕ → In 3 expression-kinds.ps
-expression-at t =
-    and 3 expression-kinds.ps (is 3 expression-kinds.ps μ-expression t) expression.Pre
+expression-at = at expression-kinds.ps μ-expression expression.Pre
 
 abbrev pub expression-below : ℕ → In 3 expression-kinds.ps
-expression-below t =
-    and 3 expression-kinds.ps (falls 3 expression-kinds.ps _<_ μ-expression t) expression.Pre
+expression-below = below expression-kinds.ps μ-expression expression.Pre
 
 abbrev pub infixed-at : ℕ → In 3 infixed-kinds.ps
-infixed-at t = and 3 infixed-kinds.ps (is 3 infixed-kinds.ps μ-infixed t) infixed.Pre
+infixed-at = at infixed-kinds.ps μ-infixed infixed.Pre
 
 abbrev pub infixed-below : ℕ → In 3 infixed-kinds.ps
-infixed-below t = and 3 infixed-kinds.ps (falls 3 infixed-kinds.ps _<_ μ-infixed t) infixed.Pre
+infixed-below = below infixed-kinds.ps μ-infixed infixed.Pre
 
 abbrev pub infixes-at : ℕ → In 3 infixes-kinds.ps
-infixes-at t = and 3 infixes-kinds.ps (is 3 infixes-kinds.ps μ-infixes t) infixes.Pre
+infixes-at = at infixes-kinds.ps μ-infixes infixes.Pre
 
 abbrev pub infixes-below : ℕ → In 3 infixes-kinds.ps
-infixes-below t = and 3 infixes-kinds.ps (falls 3 infixes-kinds.ps _<_ μ-infixes t) infixes.Pre
+infixes-below = below infixes-kinds.ps μ-infixes infixes.Pre
 
 abbrev pub named-at : ℕ → In 3 named-kinds.ps
-named-at t = and 3 named-kinds.ps (is 3 named-kinds.ps μ-named t) named.Pre
+named-at = at named-kinds.ps μ-named named.Pre
 
 abbrev pub named-below : ℕ → In 3 named-kinds.ps
-named-below t = and 3 named-kinds.ps (falls 3 named-kinds.ps _<_ μ-named t) named.Pre
+named-below = below named-kinds.ps μ-named named.Pre
 
 abbrev pub right-at : ℕ → In 3 right-kinds.ps
-right-at t = and 3 right-kinds.ps (is 3 right-kinds.ps μ-right t) right.Pre
+right-at = at right-kinds.ps μ-right right.Pre
 
 abbrev pub right-below : ℕ → In 3 right-kinds.ps
-right-below t = and 3 right-kinds.ps (falls 3 right-kinds.ps _<_ μ-right t) right.Pre
+right-below = below right-kinds.ps μ-right right.Pre
 
 abbrev pub tail-at : ℕ → In 3 tail-kinds.ps
-tail-at t = and 3 tail-kinds.ps (is 3 tail-kinds.ps μ-tail t) tail.Pre
+tail-at = at tail-kinds.ps μ-tail tail.Pre
 
 abbrev pub tail-below : ℕ → In 3 tail-kinds.ps
-tail-below t = and 3 tail-kinds.ps (falls 3 tail-kinds.ps _<_ μ-tail t) tail.Pre
+tail-below = below tail-kinds.ps μ-tail tail.Pre
