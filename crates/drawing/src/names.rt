@@ -25,7 +25,7 @@ pub fn predicate_name(kind: u64) {
 // What a refusal means.
 fn reason(number: usize) {
     put_part(
-        b"?|more than 16384 bytes of text, 4096 tokens or 2048 rows|a token of unknown kind or outside the text|something is missing after the last token|no operand starts with this token|another token is needed here|the expression has ended before this token|not a number, or one above 9223372036854775807|more than 64 levels|more than 2048 rows|not the rows of one tree|more than 1024 clauses or 8192 literals|a list is too short|not a lookup|no such clause or value",
+        b"?|more than 16384 bytes of text, 4096 tokens or 2048 rows|a token that is of no kind, outside the text or cut short|something is missing after the last token|no operand starts with this token|another token is needed here|the expression has ended before this token|not a number, or one above 9223372036854775807|more than 64 levels|more than 2048 rows|not the rows of one tree|more than 1024 clauses or 8192 literals|a list is too short|not a lookup|no such clause or value",
         b'|',
         number,
     );

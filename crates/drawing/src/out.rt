@@ -2,8 +2,13 @@
 use form::scan::until;
 use libc::STDOUT_FILENO;
 
+// Writes s; answers whether all of it could be written.
+pub fn written(s: &[u8]) -> bool {
+    io::write_all(STDOUT_FILENO, s)
+}
+
 pub fn put(s: &[u8]) {
-    io::write_all(STDOUT_FILENO, s);
+    written(s);
 }
 
 pub fn decimal(n: u64) {

@@ -13,7 +13,7 @@ pub enum Number {
     Bad,
 }
 
-// How many numbers a line has, or where the first word is that has more than 64 bits or is no number.
+// How many numbers a line has, or where the first word is that is too large or no number.
 pub enum Taken {
     All(usize),
     TooLarge(usize, usize),
@@ -130,8 +130,8 @@ pub fn keep(out: &mut [u64], n: usize, value: u64)
     }
 }
 
-// The numbers after one more word.
-fn take_word(line: &[u8], start: usize, end: usize, out: &mut [u64], n: usize) -> Taken
+// The numbers after one more word, which is too large if it is more than `most`.
+fn take_word(line: &[u8], start: usize, end: usize, most: u64, out: &mut [u64], n: usize) -> Taken
     requires { ⌜ (start ≤ end) × (end ≤ length (now line)) ⌝ }
     ensures { λ _. ⌜ length (now (out .exit)) ≡ length (now (out .entry)) ⌝ }
 {
@@ -140,6 +140,9 @@ fn take_word(line: &[u8], start: usize, end: usize, out: &mut [u64], n: usize) -
     }
     match number_of(&line[start..end]) {
         Number::Is(value) => {
+            if most < value {
+                return Taken::TooLarge(start, end);
+            }
             keep(out, n, value);
             Taken::All(one_more(n))
         }
@@ -148,14 +151,14 @@ fn take_word(line: &[u8], start: usize, end: usize, out: &mut [u64], n: usize) -
     }
 }
 
-// The numbers of a line from `from` on, as many as there are places for, and how many there are.
-pub fn numbers_of(line: &[u8], from: usize, out: &mut [u64]) -> Taken {
+// The numbers of a line from `from` on, none of them above `most`: as many as there are places for, and how many there are.
+pub fn numbers_of(line: &[u8], from: usize, most: u64, out: &mut [u64]) -> Taken {
     let mut at = from;
     let mut n = 0;
     while at < line.len() {
         let start = word_start(line, at);
         let end = word_end(line, start);
-        let taken = take_word(line, start, end, out, n);
+        let taken = take_word(line, start, end, most, out, n);
         let Taken::All(so) = taken else {
             return taken;
         };
@@ -163,4 +166,24 @@ pub fn numbers_of(line: &[u8], from: usize, out: &mut [u64]) -> Taken {
         at = end + 1;
     }
     Taken::All(n)
+}
+
+// Number `from + i`, and 0 where there is none.
+pub fn field(f: &[u64], from: usize, i: usize) -> u64 {
+    if from < f.len() {
+        if i < f.len() - from { f[from + i] } else { 0 }
+    } else {
+        0
+    }
+}
+
+// The numbers from `from` on, in 32 bits each.
+pub fn words(f: &[u64], from: usize, out: &mut [u32])
+    ensures { λ _. ⌜ length (now (out .exit)) ≡ length (now (out .entry)) ⌝ }
+{
+    let mut i = 0;
+    while i < out.len() {
+        out[i] = (field(f, from, i) % 4294967296) as u32;
+        i += 1;
+    }
 }

@@ -1,4 +1,5 @@
 // The stored lists as numbers: a line is fields with one space between them, and a field is a decimal number or one letter.
+use form::numbers::field;
 use form::numbers::keep;
 ghost use mathlib.Core.Path.{_≡_};
 ghost use Prim.Native.Nat.{_+_, _≤_, _<_, _^_};
@@ -63,15 +64,6 @@ pub fn fields_of(s: &[u8], out: &mut [u64]) -> usize
     n + 1
 }
 
-// Field `from + i`, and 0 where there is none.
-pub fn field(f: &[u64], from: usize, i: usize) -> u64 {
-    if from < f.len() {
-        if i < f.len() - from { f[from + i] } else { 0 }
-    } else {
-        0
-    }
-}
-
 // Field `from` as a count of at most `most`.
 pub fn count_at(f: &[u64], from: usize, most: usize) -> usize
     ensures { λ r. ⌜ r ≤ most ⌝ }
@@ -87,17 +79,6 @@ pub fn bytes(f: &[u64], from: usize, out: &mut [u8])
     let mut i = 0;
     while i < out.len() {
         out[i] = (field(f, from, i) % 256) as u8;
-        i += 1;
-    }
-}
-
-// And as 32-bit numbers.
-pub fn words(f: &[u64], from: usize, out: &mut [u32])
-    ensures { λ _. ⌜ length (now (out .exit)) ≡ length (now (out .entry)) ⌝ }
-{
-    let mut i = 0;
-    while i < out.len() {
-        out[i] = (field(f, from, i) % 4294967296) as u32;
         i += 1;
     }
 }

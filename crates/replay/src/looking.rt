@@ -2,10 +2,11 @@
 // the column and the values, each as a constant's row.
 use crate::fields::bytes;
 use crate::fields::count_at;
-use crate::fields::field;
 use crate::fields::numbers;
+use form::numbers::field;
 use lookup::Found;
 use lookup::Looked;
+use rows::WIDTH;
 use tokens::refusal::Refusal;
 use values::row_of;
 
@@ -112,8 +113,8 @@ fn look_lent(f: &[u64], text: &mut [u8], rows: &mut [u64]) -> bool {
 // Do the lookup entries answer what is stored?
 pub fn look_case(f: &[u64]) -> bool {
     let mut text = [0u8; TEXT];
-    let mut rows = [0u64; ROWS * 3];
+    let mut rows = [0u64; ROWS * WIDTH];
     let length = count_at(f, 1, TEXT);
-    let many = count_at(f, length + 2, ROWS) * 3;
+    let many = count_at(f, length + 2, ROWS) * WIDTH;
     look_lent(f, &mut text[0..length], &mut rows[0..many])
 }

@@ -1,6 +1,7 @@
 // Replays the stored answers of the original (the lists in data/): says how many cases each list has, how many of them the library answers otherwise, and
 // the line of the first that it does.
 use fields::fields_of;
+use form::numbers::field;
 use form::scan::until;
 use libc::STDOUT_FILENO;
 
@@ -26,7 +27,7 @@ pub struct Tally {
 
 // Does the library answer what a line says?
 fn case(f: &[u64]) -> bool {
-    match fields::field(f, 0, 0) {
+    match field(f, 0, 0) {
         76 => looking::look_case(f),
         80 => reading::parse_case(f),
         83 => splitting::split_case(f),

@@ -2,9 +2,10 @@
 use crate::fields::all;
 use crate::fields::bytes;
 use crate::fields::count_at;
-use crate::fields::field;
 use crate::fields::same;
-use crate::fields::words;
+use form::numbers::field;
+use form::numbers::words;
+use rows::WIDTH;
 use syntax::Parsed;
 use tokens::refusal;
 ghost use lib.ListN.{length};
@@ -13,17 +14,17 @@ const TEXT: usize = 1024;
 
 const TOKENS: usize = 300;
 
-const ROWS: usize = 1536;
+const ROWS: usize = 512;
 
 // What stands in the row table before a parse: a success leaves it after the rows, and a refusal nowhere.
 const BEFORE: u64 = 7;
 
 // Are the rows those from field `at` on, and all after them as before?
 fn rows_are(rows: &[u64], written: usize, f: &[u64], at: usize) -> bool {
-    if rows.len() / 3 < written {
+    if rows.len() / WIDTH < written {
         return false;
     }
-    let end = written * 3;
+    let end = written * WIDTH;
     if same(&rows[0..end], f, at) {
         all(&rows[end..], BEFORE)
     } else {
@@ -79,7 +80,7 @@ fn parse_lent(f: &[u64], text: &mut [u8], tokens: &mut [u32], rows: &mut [u64]) 
 pub fn parse_case(f: &[u64]) -> bool {
     let mut text = [0u8; TEXT];
     let mut tokens = [0u32; TOKENS * 3];
-    let mut rows = [BEFORE; ROWS];
+    let mut rows = [BEFORE; ROWS * WIDTH];
     let length = count_at(f, 1, TEXT);
     let numbers = count_at(f, length + 2, TOKENS) * 3;
     parse_lent(f, &mut text[0..length], &mut tokens[0..numbers], &mut rows)

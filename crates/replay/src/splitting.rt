@@ -2,9 +2,10 @@
 // literals.
 use crate::fields::bytes;
 use crate::fields::count_at;
-use crate::fields::field;
 use crate::fields::numbers;
 use clauses::Listed;
+use form::numbers::field;
+use rows::WIDTH;
 
 const TEXT: usize = 1024;
 
@@ -144,11 +145,11 @@ fn split_lent(
 // Does the splitter answer what is stored?
 pub fn split_case(f: &[u64]) -> bool {
     let mut text = [0u8; TEXT];
-    let mut rows = [0u64; ROWS * 3];
+    let mut rows = [0u64; ROWS * WIDTH];
     let mut literals = [BEFORE; LITERALS];
     let mut ends = [BEFORE; ENDS];
     let length = count_at(f, 1, TEXT);
-    let many = count_at(f, length + 2, ROWS) * 3;
+    let many = count_at(f, length + 2, ROWS) * WIDTH;
     split_lent(
         f,
         &mut text[0..length],

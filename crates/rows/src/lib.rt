@@ -8,7 +8,7 @@ ghost use lib.Seq.{sets};
 ghost use Rattle.rows.specs.Layout.{width, numbers, count as countOf, onlyWhole, capacity as capacityOf, rowAt};
 
 // Numbers per row.
-const WIDTH: usize = 3;
+pub const WIDTH: usize = 3;
 
 // A row, as its numbers.
 pub struct Row {

@@ -10,6 +10,7 @@ use drawing::tree::Family;
 use drawing::tree::draw;
 use form::numbers::Taken;
 use form::numbers::numbers_of;
+use form::numbers::words;
 use form::scan::find;
 use form::scan::last;
 use form::scan::until;
@@ -20,7 +21,9 @@ use form::words::Doubt;
 use form::words::first_doubt;
 use form::words::tokens_of;
 use predicate::Checked;
+use rows::WIDTH;
 use syntax::Parsed;
+use tokens::limits::ROWS_MAX;
 use tokens::refusal::Refusal;
 ghost use Prim.Native.Nat.{_≤_};
 ghost use lib.ListN.{length};
@@ -29,6 +32,11 @@ ghost use lib.ListN.{length};
 const TOKENS: usize = 4097;
 
 const ROWS: usize = 2049;
+
+// The largest numbers of a token and of a row.
+const MOST_32: u64 = 4294967295;
+
+const MOST_64: u64 = 18446744073709551615;
 
 // Under a line: a caret below word n from `from` on, or right after the last word where there are fewer. A word is a token, and its quotes are part of it.
 fn caret(line: &[u8], from: usize, n: usize)
@@ -66,18 +74,45 @@ fn put_count(n: usize) {
 
 fn drawn(family: Family, text: &[u8], tokens: &[u32], rows: &[u64], n: usize) {
     put_count(n);
-    if n <= rows.len() / 3 {
-        let end = n * 3;
+    if n <= rows.len() / WIDTH {
+        let end = n * WIDTH;
         draw(family, text, tokens, &rows[0..end]);
     }
 }
 
-fn parse_tokens(line: &[u8], from: usize, number: u64, tokens: &[u32], rows: &mut [u64])
+fn least(n: usize, most: usize) -> usize
+    ensures { λ r. ⌜ r ≤ most ⌝ }
+{
+    if n <= most { n } else { most }
+}
+
+// Which word a token begins with: a token is one word, or three where it is typed by its numbers.
+fn word_of(token: usize, by_numbers: bool) -> usize {
+    if by_numbers {
+        least(token, TOKENS) * 3
+    } else {
+        token
+    }
+}
+
+// A token table over a text, and what comes of it. The line is where the caret points.
+fn parse_tokens(
+    text: &[u8],
+    line: &[u8],
+    from: usize,
+    number: u64,
+    tokens: &[u32],
+    by_numbers: bool,
+    rows: &mut [u64],
+)
     requires { ⌜ from ≤ length (now line) ⌝ }
 {
-    match syntax::parse(line, tokens, rows) {
-        Parsed::Rows(n) => drawn(Family::Syntax, line, tokens, rows, n),
-        Parsed::Refused(why, place) => refused_at(line, from, place, number, why, b"token", place),
+    match syntax::parse(text, tokens, rows) {
+        Parsed::Rows(n) => drawn(Family::Syntax, text, tokens, rows, n),
+        Parsed::Refused(why, place) => {
+            let word = word_of(place, by_numbers);
+            refused_at(line, from, word, number, why, b"token", place);
+        }
     }
 }
 
@@ -86,7 +121,7 @@ fn parse_with(line: &[u8], from: usize, number: u64, table: &mut [u32], rows: &m
 {
     let n = tokens_of(line, from, table);
     if n <= table.len() {
-        parse_tokens(line, from, number, &table[0..n], rows);
+        parse_tokens(line, line, from, number, &table[0..n], false, rows);
     }
 }
 
@@ -113,7 +148,7 @@ fn parse_case(line: &[u8], from: usize, number: u64)
     requires { ⌜ from ≤ length (now line) ⌝ }
 {
     let mut table = [0u32; TOKENS * 3];
-    let mut rows = [0u64; 6144];
+    let mut rows = [0u64; ROWS_MAX * WIDTH];
     parse_with(line, from, number, &mut table, &mut rows);
     doubted(line, from, number);
 }
@@ -122,12 +157,6 @@ fn parse_case(line: &[u8], from: usize, number: u64)
 pub fn wrong(number: u64, what: &[u8]) {
     at_line(number);
     put(what);
-}
-
-fn least(n: usize, most: usize) -> usize
-    ensures { λ r. ⌜ r ≤ most ⌝ }
-{
-    if n <= most { n } else { most }
 }
 
 fn predicate(text: &[u8], line: &[u8], from: usize, number: u64, rows: &[u64])
@@ -140,13 +169,13 @@ fn predicate(text: &[u8], line: &[u8], from: usize, number: u64, rows: &[u64])
             list(text, rows, number);
         }
         Checked::Refused(why, place) => {
-            let first = least(place, ROWS) * 3;
+            let first = least(place, ROWS) * WIDTH;
             refused_at(line, from, first, number, why, b"row", place);
         }
     }
 }
 
-// A word among the rows that cannot be taken, and why.
+// A word among the numbers that cannot be taken, and why.
 fn wrong_word(line: &[u8], start: usize, end: usize, number: u64, why: &[u8]) {
     wrong(number, why);
     quoted_word(line, start, end);
@@ -156,7 +185,7 @@ fn wrong_word(line: &[u8], start: usize, end: usize, number: u64, why: &[u8]) {
 fn rows_with(text: &[u8], line: &[u8], from: usize, number: u64, rows: &mut [u64])
     requires { ⌜ from ≤ length (now line) ⌝ }
 {
-    match numbers_of(line, from, rows) {
+    match numbers_of(line, from, MOST_64, rows) {
         Taken::All(n) => {
             let end = least(n, rows.len());
             predicate(text, line, from, number, &rows[0..end]);
@@ -176,29 +205,66 @@ fn rows_with(text: &[u8], line: &[u8], from: usize, number: u64, rows: &mut [u64
 fn rows_case(text: &[u8], line: &[u8], from: usize, number: u64)
     requires { ⌜ from ≤ length (now line) ⌝ }
 {
-    let mut rows = [0u64; ROWS * 3];
+    let mut rows = [0u64; ROWS * WIDTH];
     rows_with(text, line, from, number, &mut rows);
+}
+
+fn tokens_with(
+    text: &[u8],
+    line: &[u8],
+    from: usize,
+    number: u64,
+    numbers: &mut [u64],
+    table: &mut [u32],
+)
+    requires { ⌜ from ≤ length (now line) ⌝ }
+{
+    let mut rows = [0u64; ROWS_MAX * WIDTH];
+    match numbers_of(line, from, MOST_32, numbers) {
+        Taken::All(n) => {
+            words(numbers, 0, table);
+            let end = least(n, table.len());
+            parse_tokens(text, line, from, number, &table[0..end], true, &mut rows);
+        }
+        Taken::TooLarge(start, end) => wrong_word(
+            line,
+            start,
+            end,
+            number,
+            b"too large for 32 bits: ",
+        ),
+        Taken::Bad(start, end) => wrong_word(line, start, end, number, b"not a number: "),
+    }
+}
+
+// The numbers from `from` on as a token table over the text.
+fn tokens_case(text: &[u8], line: &[u8], from: usize, number: u64)
+    requires { ⌜ from ≤ length (now line) ⌝ }
+{
+    let mut numbers = [0u64; TOKENS * 3];
+    let mut table = [0u32; TOKENS * 3];
+    tokens_with(text, line, from, number, &mut numbers, &mut table);
 }
 
 // Which case a word opens.
 fn opened(word: &[u8]) -> usize {
-    find(b"parse rows text", word)
+    find(b"parse rows tokens text", word)
 }
 
-// The same, after the word `rows`.
-fn rows_after(text: &[u8], line: &[u8], from: usize, number: u64)
+// What comes after the text: the word `rows` or `tokens`, and numbers.
+fn after_text(text: &[u8], line: &[u8], from: usize, number: u64)
     requires { ⌜ from ≤ length (now line) ⌝ }
 {
     let start = word_start(line, from);
     let end = word_end(line, start);
-    if opened(&line[start..end]) == 2 {
-        rows_case(text, line, end, number);
-    } else {
-        wrong(number, b"after the text comes: rows\n");
+    match opened(&line[start..end]) {
+        2 => rows_case(text, line, end, number),
+        3 => tokens_case(text, line, end, number),
+        _ => wrong(number, b"after the text comes: rows or tokens\n"),
     }
 }
 
-// A text between the first and the last quote, and then rows.
+// A text between the first and the last quote, and then numbers.
 fn text_case(line: &[u8], from: usize, number: u64)
     requires { ⌜ from ≤ length (now line) ⌝ }
 {
@@ -208,7 +274,7 @@ fn text_case(line: &[u8], from: usize, number: u64)
         if close < line.len() {
             let start = open + 1;
             let after = close + 1;
-            rows_after(&line[start..close], line, after, number);
+            after_text(&line[start..close], line, after, number);
             return;
         }
     }
@@ -222,7 +288,8 @@ pub fn case(line: &[u8], number: u64) {
     match opened(&line[start..end]) {
         1 => parse_case(line, end, number),
         2 => rows_case(b"", line, end, number),
-        3 => text_case(line, end, number),
-        _ => wrong(number, b"a case starts with parse, rows or text\n"),
+        3 => tokens_case(b"", line, end, number),
+        4 => text_case(line, end, number),
+        _ => wrong(number, b"a case starts with parse, rows, tokens or text\n"),
     }
 }

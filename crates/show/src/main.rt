@@ -3,6 +3,7 @@
 use cases::case;
 use cases::wrong;
 use drawing::out::put;
+use drawing::out::written;
 use form::input::Unread;
 use form::input::read_line;
 use form::scan::byte;
@@ -11,52 +12,64 @@ use form::scan::word_start;
 mod cases;
 
 // A line: copied, and followed by what there is to say of it if it is a case. Blanks before a comment are passed over, as before a case.
-fn show_line(line: &[u8], number: u64) {
+// Answers whether the end of it could be written: a disk that has become full has no room for that either.
+fn show_line(line: &[u8], number: u64) -> bool {
     let start = word_start(line, 0);
     if start == line.len() {
-        return;
+        return true;
     }
     put(line);
-    put(b"\n");
     if byte(line, start) != b'#' {
-        case(line, number);
         put(b"\n");
+        case(line, number);
     }
+    written(b"\n")
 }
 
 // A line of so many bytes, of which `line` has those that there are places for.
-fn show_read(line: &[u8], length: usize, number: u64) {
+fn show_read(line: &[u8], length: usize, number: u64) -> bool {
     if length <= line.len() {
-        show_line(&line[0..length], number);
-    } else {
-        wrong(number, b"longer than 65536 bytes, and left out\n\n");
+        return show_line(&line[0..length], number);
     }
+    wrong(number, b"longer than 65536 bytes, and left out\n");
+    written(b"\n")
 }
 
-// Every line; answers whether a read failed. It then returns at once, while errno still says why, and leaves out the line that was cut short.
-fn show_all(fd: i32, chunk: &mut [u8], line: &mut [u8]) -> bool {
+// How it ended: with the last line, or because a read or a write failed.
+enum End {
+    Shown,
+    Unreadable,
+    Unwritable,
+}
+
+// Every line. Where a read or a write fails it returns at once, while errno still says why; a line that was cut short is left out.
+fn show_all(fd: i32, chunk: &mut [u8], line: &mut [u8]) -> End {
     let mut unread = Unread { at: 0, end: 0 };
     let mut number: u64 = 0;
     while number < 18446744073709551615 {
         number += 1;
         let read = read_line(fd, chunk, line, unread);
         if read.failed {
-            return true;
+            return End::Unreadable;
         }
-        show_read(line, read.length, number);
+        if !show_read(line, read.length, number) {
+            return End::Unwritable;
+        }
         if read.ended {
-            return false;
+            return End::Shown;
         }
         unread = read.unread;
     }
-    false
+    End::Shown
 }
 
 fn show(fd: i32, name: &[u8]) {
     let mut chunk = io::buffer();
     let mut line = io::large_buffer();
-    if show_all(fd, &mut chunk, &mut line) {
-        os::fail(name);
+    match show_all(fd, &mut chunk, &mut line) {
+        End::Shown => {}
+        End::Unreadable => os::fail(name),
+        End::Unwritable => os::fail(b"standard output"),
     }
 }
 

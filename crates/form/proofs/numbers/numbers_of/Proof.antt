@@ -7,10 +7,10 @@ use Rattle.form.proofs.numbers.numbers_of.Statement.{statement}
 use Rattle.form.proofs.numbers.numbers_of.Tie as tie
 
 abbrev Inv-loop : tie.InvT-loop
-Inv-loop line from out₀ at₀ n₀ out at n = length out ≡ length out₀
+Inv-loop line from most out₀ at₀ n₀ out at n = length out ≡ length out₀
 
 abbrev μ-loop : tie.MeasureT-loop
-μ-loop line from out₀ at₀ n₀ out at n = suc (length line) - at
+μ-loop line from most out₀ at₀ n₀ out at n = suc (length line) - at
 
 loop-holds : tie.Need-loop-holds Inv-loop μ-loop
 loop-holds c = search needs

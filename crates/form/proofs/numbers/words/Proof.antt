@@ -1,11 +1,11 @@
--- `fields::words` is safe: the index is below the length, which a write keeps.
+-- `numbers::words` is safe: the index is below the length, which a write keeps.
 -- Assumes nothing.
 use Prim.Native.Nat.{_-_, _≤_}
 use lib.ListN.{length, length-set}
 use mathlib.Core.Path.{_≡_}
 use borrow.Author.Needs.{needs}
-use Rattle.replay.proofs.fields.words.Statement.{statement}
-use Rattle.replay.proofs.fields.words.Tie as tie
+use Rattle.form.proofs.numbers.words.Statement.{statement}
+use Rattle.form.proofs.numbers.words.Tie as tie
 
 abbrev Inv-loop : tie.InvT-loop
 Inv-loop f from out₀ i₀ out i = (i ≤ length out₀) × (length out ≡ length out₀)
