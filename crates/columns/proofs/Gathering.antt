@@ -12,7 +12,7 @@ use lib.Ieee.{Float, nan}
 use lib.ListN.{length, getD, length-append}
 use Rattle.rows.specs.declared.Row.{Row}
 use Rattle.predicate.specs.Tree.{Tree}
-use Rattle.normal.specs.Clause.{literal}
+use Rattle.cnf.specs.Clause.{literal}
 use Rattle.values.specs.Value.{valueOf, undefined}
 use Rattle.columns.specs.Lookup.{testOf, testIn, tests, allTest, valueIn, valuesIn, Look, on, none, lookOn, lookFrom, lookIn}
 use Rattle.columns.specs.Gather.{listed, added, begun, gather, gatherAll, values}

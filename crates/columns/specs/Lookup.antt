@@ -6,7 +6,7 @@ use lib.Dec.{leb, eqb}
 use lib.Ieee.{nan}
 use Rattle.predicate.specs.Kind as kind
 use Rattle.predicate.specs.Tree.{Tree, leaf, unary, binary, both, either, negate}
-use Rattle.normal.specs.Clause.{Literal, literal}
+use Rattle.cnf.specs.Clause.{Literal, literal}
 use Rattle.values.specs.Value.{valueOf, undefined}
 use Rattle.rows.specs.declared.Row.{Row}
 use Rattle.columns.specs.declared.test.Test.{Test}

@@ -7,7 +7,7 @@ use values::value_of;
 ghost use mathlib.Core.Path.{_≡_};
 ghost use Prim.Native.Nat.{_+_, _≤_};
 ghost use Rattle.predicate.specs.Tree.{treeAt, Sound};
-ghost use Rattle.normal.specs.Clause.{literal};
+ghost use Rattle.cnf.specs.Clause.{literal};
 ghost use Rattle.columns.specs.Lookup.{testIn, tests as testsOf, valueIn};
 ghost use Rattle.columns.specs.Gather.{listed, added as addedOf, begun as begunOf, gather as gatherOf, values};
 

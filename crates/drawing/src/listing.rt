@@ -4,9 +4,9 @@ use crate::names::refused;
 use crate::out::counted;
 use crate::out::decimal;
 use crate::out::put;
-use clauses::Listed;
 use lookup::Found;
 use lookup::Looked;
+use splitter::Listed;
 
 const LITERALS: usize = 8192;
 
@@ -115,7 +115,7 @@ fn put_clauses(text: &[u8], rows: &[u64], literals: &[u32], ends: &[u32], count:
 }
 
 fn list_with(text: &[u8], rows: &[u64], line: u64, literals: &mut [u32], ends: &mut [u32]) {
-    match clauses::split(text, rows, literals, ends) {
+    match splitter::split(text, rows, literals, ends) {
         Listed::Clauses(count, total) => {
             put_counts(count, total);
             put(b"\n");

@@ -3,8 +3,7 @@ use crate::out::at_line;
 use crate::out::decimal;
 use crate::out::put;
 use crate::out::put_part;
-use tokens::refusal;
-use tokens::refusal::Refusal;
+use refusals::Refusal;
 
 pub fn syntax_name(kind: u64) {
     put_part(
@@ -66,7 +65,7 @@ fn meaning(n: u32) {
 
 // A refusal: the line, its name, its number, its place if it has one, and what it means.
 pub fn refused(line: u64, why: Refusal, what: &[u8], place: usize) {
-    let n = refusal::number_of(why);
+    let n = refusals::number_of(why);
     at_line(line);
     name_and_number(n);
     if has_place(n) {

@@ -1,6 +1,6 @@
 // Writing to standard output.
-use form::scan::until;
 use libc::STDOUT_FILENO;
+use lines::scan::until;
 
 // Writes s; answers whether all of it could be written.
 pub fn written(s: &[u8]) -> bool {

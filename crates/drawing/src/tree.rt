@@ -7,9 +7,9 @@ use crate::labels::syntax_row;
 use crate::out::indent;
 use crate::out::place;
 use crate::out::put;
-use form::scan::one_more;
-use operators::kind;
+use lines::scan::one_more;
 use rows::Row;
+use syntax::kind;
 ghost use mathlib.Core.Path.{_≡_};
 ghost use lib.ListN.{length};
 

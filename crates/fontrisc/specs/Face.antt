@@ -3,15 +3,15 @@
 use mathlib.Core.Path.{_≡_}
 use Prim.Native.Nat.{ℕ}
 use mathlib.Core.List.{List}
-use Rattle.tokens.specs.Refusal.{numberOf}
+use Rattle.refusals.specs.Refusal.{refusalNumber}
 use Rattle.rows.specs.declared.Row.{Row}
-use Rattle.grammar.specs.Rules.{levelMax}
-use Rattle.syntax.specs.Promise.{Parses}
-use Rattle.syntax.specs.declared.Parsed.{Parsed}
-use Rattle.syntax.specs.declared.Parsed.the-variants as parsed
-use Rattle.clauses.specs.Split.{Promise}
-use Rattle.clauses.specs.declared.Listed.{Listed}
-use Rattle.clauses.specs.declared.Listed.the-variants as listed
+use Rattle.limits.specs.Limits.{levelMax}
+use Rattle.parser.specs.Promise.{Parses}
+use Rattle.parser.specs.declared.Parsed.{Parsed}
+use Rattle.parser.specs.declared.Parsed.the-variants as parsed
+use Rattle.splitter.specs.Split.{Promise}
+use Rattle.splitter.specs.declared.Listed.{Listed}
+use Rattle.splitter.specs.declared.Listed.the-variants as listed
 use Rattle.values.specs.Value.{rowOf}
 use Rattle.lookup.specs.Answer.{LooksUp}
 use Rattle.lookup.specs.declared.Looked.{Looked}
@@ -23,19 +23,19 @@ use Rattle.lookup.specs.declared.Found.the-variants as found
 
 unfoldable pub parseCode : Parsed → ℕ
 parseCode (parsed.Rows n) = 0
-parseCode (parsed.Refused why place) = numberOf why
+parseCode (parsed.Refused why place) = refusalNumber why
 
 unfoldable pub splitCode : Listed → ℕ
 splitCode (listed.Clauses c m) = 0
-splitCode (listed.Refused why place) = numberOf why
+splitCode (listed.Refused why place) = refusalNumber why
 
 unfoldable pub lookupCode : Looked → ℕ
 lookupCode (looked.On c n) = 0
-lookupCode (looked.Refused why place) = numberOf why
+lookupCode (looked.Refused why place) = refusalNumber why
 
 unfoldable pub valueCode : Found → ℕ
 valueCode (found.At v) = 0
-valueCode (found.Refused why place) = numberOf why
+valueCode (found.Refused why place) = refusalNumber why
 
 -- ---- what is handed out
 

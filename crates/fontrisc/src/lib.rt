@@ -2,11 +2,10 @@
 //
 // A slice is a pointer and a count of elements. Each function but `fontrisc_spelled` returns 0 for an answer, else the refusal's number; then the first
 // number lent for answers is the refusal's place and the others are 0.
-use clauses::Listed;
 use lookup::Found;
 use lookup::Looked;
-use syntax::Parsed;
-use tokens::refusal;
+use parser::Parsed;
+use splitter::Listed;
 use values::row_of;
 ghost use mathlib.Core.Path.{_≡_};
 ghost use Rattle.tokens.specs.Token.{spanAt};
@@ -35,7 +34,7 @@ pub extern "C" fn fontrisc_spelled(
 pub extern "C" fn fontrisc_parse(text: &[u8], tokens: &[u32], rows: &mut [u64], at: &mut u64) -> u32
     ensures { λ r. ⌜ ParsesTo (now (text .entry)) (now (tokens .entry)) (now (rows .entry)) (now (rows .exit)) r (now (at .exit)) ⌝ }
 {
-    let v = syntax::parse(text, tokens, rows);
+    let v = parser::parse(text, tokens, rows);
     match v {
         Parsed::Rows(n) => {
             *at = n as u64;
@@ -43,7 +42,7 @@ pub extern "C" fn fontrisc_parse(text: &[u8], tokens: &[u32], rows: &mut [u64], 
         }
         Parsed::Refused(why, place) => {
             *at = place as u64;
-            refusal::number_of(why)
+            refusals::number_of(why)
         }
     }
 }
@@ -60,7 +59,7 @@ pub extern "C" fn fontrisc_split(
 ) -> u32
     ensures { λ r. ⌜ SplitsTo (now (text .entry)) (now (rows .entry)) (now (literals .entry)) (now (ends .entry)) (now (literals .exit)) (now (ends .exit)) r (now (clauses .exit)) (now (total .exit)) ⌝ }
 {
-    let v = clauses::split(text, rows, literals, ends);
+    let v = splitter::split(text, rows, literals, ends);
     match v {
         Listed::Clauses(c, m) => {
             *clauses = c as u64;
@@ -70,7 +69,7 @@ pub extern "C" fn fontrisc_split(
         Listed::Refused(why, place) => {
             *clauses = place as u64;
             *total = 0;
-            refusal::number_of(why)
+            refusals::number_of(why)
         }
     }
 }
@@ -96,7 +95,7 @@ pub extern "C" fn fontrisc_lookup(
         Looked::Refused(why, place) => {
             *column = place as u64;
             *count = 0;
-            refusal::number_of(why)
+            refusals::number_of(why)
         }
     }
 }
@@ -127,7 +126,7 @@ pub extern "C" fn fontrisc_value(
             *kind = place as u64;
             *x = 0;
             *y = 0;
-            refusal::number_of(why)
+            refusals::number_of(why)
         }
     }
 }

@@ -9,19 +9,19 @@ use native.Mathlib.Omega.{arith}
 use borrow.Author.Tests.{leb-true, leb-false}
 use lib.Dec.{leb}
 use Rattle.tokens.specs.Kind as kind
-use Rattle.tokens.specs.Token.{count, kindAt, spelled}
+use Rattle.tokens.specs.Token.{tokenCount, kindAt, spelled}
 use Rattle.numbers.specs.Number.{numberOf}
 use Rattle.numbers.specs.declared.Number.{Number}
 use Rattle.numbers.specs.declared.Number.the-variants.{Integer}
 use Rattle.rows.specs.Layout.{capacity}
-use Rattle.operators.specs.Kind as row
+use Rattle.syntax.specs.Kind as row
 use Rattle.operators.specs.Operator.{among, infixOf, prefixOf, postfixOf, binds, startOf, Ends}
 use Rattle.operators.specs.declared.operator.Start.the-variants as start
-use Rattle.grammar.specs.Tree.{rowOf}
+use Rattle.syntax.specs.Tree.{rowOf}
 use Rattle.grammar.specs.Memory.{Out, done, then, past, leaf, numeral, opens, Rec, postfixes, infixes, infixed, postfix, atom, tail, expression, Numbered, Stands}
-use Rattle.grammar.specs.declared.leaf.Single.{Single}
-use Rattle.grammar.specs.declared.leaf.Single.the-variants as single
-use Rattle.grammar.specs.declared.step.Cursor.{Cursor}
+use Rattle.grammar.specs.declared.Single.{Single}
+use Rattle.grammar.specs.declared.Single.the-variants as single
+use Rattle.grammar.specs.declared.Cursor.{Cursor}
 use Rattle.grammar.proofs.Steps.{while-off, put-full, put-room, atom-by, named-column, column-plain}
 use Rattle.grammar.proofs.Openings.{expression-off}
 
@@ -43,8 +43,8 @@ module _ (text ts : List ℕ) where
       tail text ts rec m c t ≡ done c t
   unfolding postfixes infixes then
   tail-off rec m c t i p =
-      let none = while-off (λ at. binds (postfixOf (kindAt ts at)) m) (postfix ts) (count ts) c t p in
-      rw (none, while-off (λ at. binds (infixOf (kindAt ts at) .precedence) m) (infixed text ts rec) (count ts) c t i) none
+      let none = while-off (λ at. binds (postfixOf (kindAt ts at)) m) (postfix ts) (tokenCount ts) c t p in
+      rw (none, while-off (λ at. binds (infixOf (kindAt ts at) .precedence) m) (infixed text ts rec) (tokenCount ts) c t i) none
 
   leaf-ends : (rec : Rec) (m k x : ℕ) (c : Cursor) (t : List ℕ) → Ends (kindAt ts (c .at + 1)) m → then (leaf k x c t) (tail text ts rec m) ≡ leaf k x c t
   unfolding then

@@ -8,16 +8,15 @@ use native.Mathlib.Omega.{arith}
 use borrow.Author.Tests.{eq-eqb, ne-eqb, le-leb, lt-leb, eqb-true, eqb-false, leb-true, leb-false}
 use lib.Dec.{eqb, leb}
 use Rattle.tokens.specs.Kind as kind
-use Rattle.tokens.specs.Token.{count, kindAt}
-use Rattle.tokens.specs.declared.refusal.Refusal.the-variants.{TooDeep}
+use Rattle.tokens.specs.Token.{tokenCount, kindAt}
+use Rattle.refusals.specs.declared.Refusal.the-variants.{TooDeep, NeedClose}
 use Rattle.operators.specs.Operator.{among, binds, prefixOf, startTable, startOf}
 use Rattle.operators.specs.declared.operator.Start.{Start}
 use Rattle.operators.specs.declared.operator.Start.the-variants as start
 use Rattle.operators.proofs.Among.{both}
-use Rattle.grammar.specs.Rules.{needClose}
 use Rattle.grammar.specs.Memory.{Out, done, refuse, then, past, over, Rec, need, opens, opened, minimum, closed, group, atom, operand, tail, level, expression, closings}
-use Rattle.grammar.specs.declared.opening.Openings.{Openings}
-use Rattle.grammar.specs.declared.step.Cursor.{Cursor}
+use Rattle.grammar.specs.declared.Opened.{Opened}
+use Rattle.grammar.specs.declared.Cursor.{Cursor}
 use Rattle.grammar.proofs.Steps.{one-less, prefix-on, prefix-off, atom-by}
 use Rattle.grammar.proofs.Going.{kind-is, prefix-in}
 
@@ -102,7 +101,7 @@ module _ (k m : ℕ) where
 
 -- the cases of `closed`
 module _ (ts : List ℕ) (k : ℕ) (c : Cursor) (t : List ℕ) where
-  pub closed-paren : k ≡ kind.openParen → closed ts k c t ≡ need ts kind.closeParen needClose c t
+  pub closed-paren : k ≡ kind.openParen → closed ts k c t ≡ need ts kind.closeParen NeedClose c t
   unfolding closed
   closed-paren e = rw (eq-eqb k kind.openParen e, closed)
 
@@ -142,17 +141,17 @@ module _ (ts : List ℕ) where
     opened-goes e = rw (one-less levels some) at (opened-on (levels - 1) m at e)
 
   -- an opening is one of the tokens
-  pub opening-in : (at m : ℕ) → opens (kindAt ts at) m ≡ true → at < count ts
+  pub opening-in : (at m : ℕ) → opens (kindAt ts at) m ≡ true → at < tokenCount ts
   opening-in at m e = by (eqb (kindAt ts at) kind.openParen) refl
     where
-      by : (b : Bool) → eqb (kindAt ts at) kind.openParen ≡ b → at < count ts
+      by : (b : Bool) → eqb (kindAt ts at) kind.openParen ≡ b → at < tokenCount ts
       by true q = kind-is ts at kind.openParen (omega arith) (eqb-true _ _ q)
       by false q = prefix-in ts at m (sym (opens-prefix _ m (eqb-false _ _ q)) ∙ e)
 
   -- what openings come to, from token `at` on: further on, within the tokens, with a level for each, and at no opening unless no level is left
-  pub record Comes (levels at : ℕ) (o : Openings) : Type 0 where
+  pub record Comes (levels at : ℕ) (o : Opened) : Type 0 where
     pub onward : at ≤ o .at
-    pub within : at ≤ count ts → o .at ≤ count ts
+    pub within : at ≤ tokenCount ts → o .at ≤ tokenCount ts
     pub levelled : o .left + o .at ≡ levels + at
     pub shut : (o .left ≡ 0 → ⊥) → kindAt ts (o .at) ≡ kind.openParen → ⊥
 
@@ -172,7 +171,7 @@ module _ (ts : List ℕ) where
             shut = rest .shut;
           })
 
-  pub opened-is : (levels m at : ℕ) (o : Openings) → o ≡ opened ts levels m at → Comes levels at o
+  pub opened-is : (levels m at : ℕ) (o : Opened) → o ≡ opened ts levels m at → Comes levels at o
   opened-is levels m at o is = rw is (opened-comes levels m at)
 
 module _ (text ts : List ℕ) where
@@ -228,10 +227,10 @@ module _ (text ts : List ℕ) where
       ∙ sym (then-then x (λ d u. then (closed ts k d u) f) g))
 
   -- where openings end after a first one, and the atom there
-  abbrev next : ℕ → Cursor → Openings
+  abbrev next : ℕ → Cursor → Opened
   next levels c = opened ts levels (prefixOf (kindAt ts (c .at)) .precedence) (c .at + 1)
 
-  abbrev first : ℕ → Openings → Cursor → List ℕ → Out
+  abbrev first : ℕ → Opened → Cursor → List ℕ → Out
   first rest o c t = atom text ts (expression text ts rest) (startOf (kindAt ts (o .at))) (record { at = o .at; rows = c .rows }) t
 
   -- an expression whose openings leave no level
@@ -292,7 +291,7 @@ module _ (text ts : List ℕ) where
           ∙ sym (expression-on levels m c t e))
 
   -- the same, by what a loop over the openings answers
-  module _ (levels m : ℕ) (c : Cursor) (t : List ℕ) (o : Openings) (is : o ≡ opened ts levels m (c .at)) where
+  module _ (levels m : ℕ) (c : Cursor) (t : List ℕ) (o : Opened) (is : o ≡ opened ts levels m (c .at)) where
     pub expression-refused : o .left ≡ 0 → expression text ts levels m c t ≡ refuse TooDeep (o .at)
     expression-refused none =
         let left : opened ts levels m (c .at) .left ≡ 0 = rw is at none in

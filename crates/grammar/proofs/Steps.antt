@@ -10,20 +10,19 @@ use borrow.Author.Tests.{lt-ltb, le-ltb, le-leb, lt-leb, eq-eqb, ne-eqb}
 use lib.ListN.{length}
 use lib.Seq.{sets}
 use Rattle.tokens.specs.Kind as kind
-use Rattle.tokens.specs.Token.{count, kindAt}
-use Rattle.tokens.specs.declared.refusal.Refusal.{Refusal}
-use Rattle.tokens.specs.declared.refusal.Refusal.the-variants.{End, LeftOver, NoRoom}
+use Rattle.tokens.specs.Token.{tokenCount, kindAt}
+use Rattle.refusals.specs.declared.Refusal.{Refusal}
+use Rattle.refusals.specs.declared.Refusal.the-variants.{End, LeftOver, NoRoom, NeedComma, NeedName, NeedNullOrNan}
 use Rattle.rows.specs.Layout.{width, numbers, capacity}
 use Rattle.rows.specs.declared.Row.{Row}
-use Rattle.operators.specs.Kind as row
+use Rattle.syntax.specs.Kind as row
 use Rattle.operators.specs.Operator.{binds, prefixOf, startOf}
 use Rattle.operators.specs.declared.operator.Start.{Start}
-use Rattle.grammar.specs.Tree.{rowOf}
-use Rattle.grammar.specs.Rules.{needComma, needName, needNullOrNan}
+use Rattle.syntax.specs.Tree.{rowOf}
 use Rattle.grammar.specs.Memory.{Out, done, refuse, Gives, then, past, put, leaf, over, while, fuel, Rec, missing, need, nullOrNan, postfix, column, argument, arguments, named, atom, operand, finish}
-use Rattle.grammar.specs.declared.step.Cursor.{Cursor}
-use Rattle.grammar.specs.declared.step.Step.{Step}
-use Rattle.grammar.specs.declared.step.Step.the-variants.{Read, Refused}
+use Rattle.grammar.specs.declared.Cursor.{Cursor}
+use Rattle.grammar.specs.declared.Step.{Step}
+use Rattle.grammar.specs.declared.Step.the-variants.{Read, Refused}
 
 -- what follows a step that read
 pub on : {r : Step} {d : Cursor} {t : List ℕ} {o : Out} (k : Cursor → List ℕ → Out) → r ≡ Read d → Gives o r t → then o k ≡ k d t
@@ -54,20 +53,20 @@ stays e = record { answer = sym e }
 -- c stands at token lo or past it, and within the tokens
 pub record Moves (ts : List ℕ) (lo : ℕ) (c : Cursor) : Type 0 where
   pub least : lo ≤ c .at
-  pub within : c .at ≤ count ts
+  pub within : c .at ≤ tokenCount ts
 
 -- a loop that began over the row table t₀ and has come to c and t: turns are left for every token, and what is to come from here, F, is o,
 -- what was to come from the start
 pub record Turning (F : ℕ → Cursor → List ℕ → Out) (o : Out) (ts t₀ : List ℕ) (c : Cursor) (t : List ℕ) : Type 0 where
   pub size : length t ≡ length t₀
-  pub within : c .at ≤ count ts
+  pub within : c .at ≤ tokenCount ts
   pub left : ℕ
-  pub enough : count ts ≤ left + c .at
+  pub enough : tokenCount ts ≤ left + c .at
   pub same : F (suc left) c t ≡ o
 
 -- it begins
-pub begins : (F : ℕ → Cursor → List ℕ → Out) (ts : List ℕ) (c : Cursor) (t : List ℕ) → c .at ≤ count ts → Turning F (F (fuel ts) c t) ts t c t
-begins F ts c t inside = record { size = refl; within = inside; left = count ts; enough = omega arith; same = refl }
+pub begins : (F : ℕ → Cursor → List ℕ → Out) (ts : List ℕ) (c : Cursor) (t : List ℕ) → c .at ≤ tokenCount ts → Turning F (F (fuel ts) c t) ts t c t
+begins F ts c t inside = record { size = refl; within = inside; left = tokenCount ts; enough = omega arith; same = refl }
 
 pub one-less : (n : ℕ) → 0 < n → suc (n - 1) ≡ n
 one-less n pos = omega arith
@@ -124,7 +123,7 @@ module _ (ts : List ℕ) (c : Cursor) (t : List ℕ) where
   unfolding nullOrNan
   null-is e = rw (eq-eqb _ kind.NULL e, nullOrNan)
 
-  pub null-not : (kindAt ts (c .at) ≡ kind.NULL → ⊥) → nullOrNan ts c t ≡ then (need ts kind.NAN needNullOrNan c t) (over row.is 1)
+  pub null-not : (kindAt ts (c .at) ≡ kind.NULL → ⊥) → nullOrNan ts c t ≡ then (need ts kind.NAN NeedNullOrNan c t) (over row.is 1)
   unfolding nullOrNan
   null-not n = rw (ne-eqb _ kind.NULL n, nullOrNan)
 
@@ -146,16 +145,16 @@ module _ (ts : List ℕ) (c : Cursor) (t : List ℕ) where
   unfolding column
   column-plain n = rw (ne-eqb _ kind.period n, column)
 
-  pub column-dot : kindAt ts (c .at + 1) ≡ kind.period → column ts c t ≡ then (need ts kind.ident needName (past 2 c) t) (put (rowOf row.qualified (c .at) (c .at + 2)))
+  pub column-dot : kindAt ts (c .at + 1) ≡ kind.period → column ts c t ≡ then (need ts kind.ident NeedName (past 2 c) t) (put (rowOf row.qualified (c .at) (c .at + 2)))
   unfolding column
   column-dot e = rw (eq-eqb _ kind.period e, column)
 
   -- the cases of `finish`
-  pub finish-over : c .at < count ts → finish ts c t ≡ refuse LeftOver (c .at)
+  pub finish-over : c .at < tokenCount ts → finish ts c t ≡ refuse LeftOver (c .at)
   unfolding finish
   finish-over lt = rw (lt-ltb _ _ lt, finish)
 
-  pub finish-done : count ts ≤ c .at → finish ts c t ≡ done c t
+  pub finish-done : tokenCount ts ≤ c .at → finish ts c t ≡ done c t
   unfolding finish
   finish-done le = rw (le-ltb _ _ le, finish)
 
@@ -165,7 +164,7 @@ module _ (text ts : List ℕ) (rec : Rec) (c : Cursor) (t : List ℕ) where
   unfolding argument
   argument-first n e = rw (eq-eqb n 0 e, argument)
 
-  pub argument-next : (n : ℕ) → (n ≡ 0 → ⊥) → argument text ts rec n c t ≡ then (need ts kind.comma needComma c t) (rec 0)
+  pub argument-next : (n : ℕ) → (n ≡ 0 → ⊥) → argument text ts rec n c t ≡ then (need ts kind.comma NeedComma c t) (rec 0)
   unfolding argument
   argument-next n e = rw (ne-eqb n 0 e, argument)
 

@@ -1,5 +1,4 @@
--- The rules of reading, as definitions, over the kinds and operators of `operators`. Tree: what is read. Rules: how. Memory is the same rules for the
--- functions, with the row table passed along.
-pub mod Tree
+-- The rules of reading, as definitions, over the trees of `syntax` and the operators of `operators`. Rules: how tokens are read. Memory is the same
+-- rules for the functions, with the row table passed along.
 pub mod Rules
 pub mod Memory

@@ -8,26 +8,25 @@ use mathlib.Core.Bool.{Bool, true, false}
 use lib.Dec.{eqb, ltb, leb}
 use lib.Seq.{sets}
 use Rattle.tokens.specs.Kind as kind
-use Rattle.tokens.specs.Token.{count, kindAt, spelled}
+use Rattle.tokens.specs.Token.{tokenCount, kindAt, spelled}
 use Rattle.numbers.specs.Number.{numberOf}
 use Rattle.numbers.specs.declared.Number.{Number}
 use Rattle.numbers.specs.declared.Number.the-variants.{Integer, Float, Neither}
-use Rattle.tokens.specs.declared.refusal.Refusal.{Refusal}
-use Rattle.tokens.specs.declared.refusal.Refusal.the-variants.{End, NoAtom, LeftOver, BadNumber, TooDeep, NoRoom}
+use Rattle.refusals.specs.declared.Refusal.{Refusal}
+use Rattle.refusals.specs.declared.Refusal.the-variants.{End, NoAtom, LeftOver, BadNumber, TooDeep, NoRoom, NeedClose, NeedComma, NeedName, NeedNullOrNan}
 use Rattle.rows.specs.Layout.{width, numbers, capacity}
 use Rattle.rows.specs.declared.Row.{Row}
-use Rattle.operators.specs.Kind as row
+use Rattle.syntax.specs.Kind as row
 use Rattle.operators.specs.Operator.{infixOf, rightOf, prefixOf, postfixOf, binds, startOf}
 use Rattle.operators.specs.declared.operator.Start.{Start}
 use Rattle.operators.specs.declared.operator.Start.the-variants as start
-use Rattle.grammar.specs.Tree.{rowOf}
-use Rattle.grammar.specs.Rules.{needClose, needComma, needName, needNullOrNan}
-use Rattle.grammar.specs.declared.leaf.Single.{Single}
-use Rattle.grammar.specs.declared.leaf.Single.the-variants as single
-use Rattle.grammar.specs.declared.opening.Openings.{Openings}
-use Rattle.grammar.specs.declared.step.Cursor.{Cursor}
-use Rattle.grammar.specs.declared.step.Step.{Step}
-use Rattle.grammar.specs.declared.step.Step.the-variants.{Read, Refused}
+use Rattle.syntax.specs.Tree.{rowOf}
+use Rattle.grammar.specs.declared.Single.{Single}
+use Rattle.grammar.specs.declared.Single.the-variants as single
+use Rattle.grammar.specs.declared.Opened.{Opened}
+use Rattle.grammar.specs.declared.Cursor.{Cursor}
+use Rattle.grammar.specs.declared.Step.{Step}
+use Rattle.grammar.specs.declared.Step.the-variants.{Read, Refused}
 
 -- how far a reading has come, and the row table; or a refusal and its place
 pub data Out : Type 0 where
@@ -80,7 +79,7 @@ while more? step (suc turns) c t =
 
 -- turns enough for every loop: each turn but the last uses a token
 abbrev pub fuel : List ℕ → ℕ
-fuel ts = suc (count ts)
+fuel ts = suc (tokenCount ts)
 
 -- a token of kind k opens a level at the minimum m: a parenthesis, or a prefix operator
 unfoldable pub opens : ℕ → ℕ → Bool
@@ -100,7 +99,7 @@ module _ (ts : List ℕ) where
   nullOrNan c t =
       elim (eqb (kindAt ts (c .at)) kind.NULL) [
         | true ↦ over row.is 0 (past 1 c) t
-        | false ↦ then (need kind.NAN needNullOrNan c t) (over row.is 1)
+        | false ↦ then (need kind.NAN NeedNullOrNan c t) (over row.is 1)
       ]
 
   unfoldable pub postfix : Cursor → List ℕ → Out
@@ -120,12 +119,12 @@ module _ (ts : List ℕ) where
   unfoldable pub column : Cursor → List ℕ → Out
   column c t =
       elim (eqb (kindAt ts (c .at + 1)) kind.period) [
-        | true ↦ then (need kind.ident needName (past 2 c) t) (put (rowOf row.qualified (c .at) (c .at + 2)))
+        | true ↦ then (need kind.ident NeedName (past 2 c) t) (put (rowOf row.qualified (c .at) (c .at + 2)))
         | false ↦ leaf row.column (c .at) c t
       ]
 
   -- past the openings from token `at` on, each at the minimum that the one before it sets, while there are levels
-  unfoldable pub opened : ℕ → ℕ → ℕ → Openings
+  unfoldable pub opened : ℕ → ℕ → ℕ → Opened
   opened zero m at = record { at = at; left = 0 }
   opened (suc levels) m at =
       elim (opens (kindAt ts at) m) [
@@ -139,18 +138,18 @@ module _ (ts : List ℕ) where
 
   -- an opening of kind k is closed: by its parenthesis, or by the operator's row
   unfoldable pub closed : ℕ → Cursor → List ℕ → Out
-  closed k c t = elim (eqb k kind.openParen) [ true ↦ need kind.closeParen needClose c t | false ↦ over (prefixOf k .row) 0 c t ]
+  closed k c t = elim (eqb k kind.openParen) [ true ↦ need kind.closeParen NeedClose c t | false ↦ over (prefixOf k .row) 0 c t ]
 
   unfoldable pub finish : Cursor → List ℕ → Out
-  finish c t = elim (ltb (c .at) (count ts)) [ true ↦ refuse LeftOver (c .at) | false ↦ done c t ]
+  finish c t = elim (ltb (c .at) (tokenCount ts)) [ true ↦ refuse LeftOver (c .at) | false ↦ done c t ]
 
 module _ (text ts : List ℕ) where
   module _ (rec : Rec) where
     unfoldable pub group : Cursor → List ℕ → Out
-    group c t = then (rec 0 (past 1 c) t) (need ts kind.closeParen needClose)
+    group c t = then (rec 0 (past 1 c) t) (need ts kind.closeParen NeedClose)
 
     unfoldable pub argument : ℕ → Cursor → List ℕ → Out
-    argument n c t = elim (eqb n 0) [ true ↦ rec 0 c t | false ↦ then (need ts kind.comma needComma c t) (rec 0) ]
+    argument n c t = elim (eqb n 0) [ true ↦ rec 0 c t | false ↦ then (need ts kind.comma NeedComma c t) (rec 0) ]
 
     unfoldable pub arguments : ℕ → ℕ → ℕ → Cursor → List ℕ → Out
     arguments f n zero c t = refuse End (c .at)

@@ -4,34 +4,17 @@ use mathlib.Core.List.{List}
 use mathlib.Core.Bool.{Bool, true, false}
 use lib.Dec.{eqb, ltb, leb}
 use Rattle.tokens.specs.Kind as kind
-use Rattle.tokens.specs.Token.{count, kindAt, spelled}
+use Rattle.tokens.specs.Token.{tokenCount, kindAt, spelled}
 use Rattle.numbers.specs.Number.{numberOf}
 use Rattle.numbers.specs.declared.Number.{Number}
 use Rattle.numbers.specs.declared.Number.the-variants.{Integer, Float, Neither}
-use Rattle.tokens.specs.declared.refusal.Refusal.{Refusal}
-use Rattle.tokens.specs.declared.refusal.Refusal.the-variants.{End, NoAtom, WrongToken, LeftOver, BadNumber, TooDeep, NoRoom}
-use Rattle.operators.specs.Kind as row
+use Rattle.refusals.specs.declared.Refusal.{Refusal}
+use Rattle.refusals.specs.declared.Refusal.the-variants.{End, NoAtom, LeftOver, BadNumber, TooDeep, NoRoom, NeedClose, NeedComma, NeedName, NeedNullOrNan}
+use Rattle.syntax.specs.Kind as row
 use Rattle.operators.specs.Operator.{infixOf, rightOf, prefixOf, postfixOf, binds, startOf}
 use Rattle.operators.specs.declared.operator.Start.{Start}
 use Rattle.operators.specs.declared.operator.Start.the-variants as start
-use Rattle.grammar.specs.Tree.{Tree, leaf, unary, binary, call, Trees, none, more}
-
--- how many levels a reading may have
-abbrev pub levelMax : ℕ
-levelMax = 64
-
--- what is refused where another token than the needed one stands: a name for each place (FORMAT §11)
-abbrev pub needClose : Refusal
-needClose = WrongToken
-
-abbrev pub needComma : Refusal
-needComma = WrongToken
-
-abbrev pub needName : Refusal
-needName = WrongToken
-
-abbrev pub needNullOrNan : Refusal
-needNullOrNan = WrongToken
+use Rattle.syntax.specs.Tree.{Tree, leaf, unary, binary, call, Trees, none, more}
 
 -- what a reading comes to: the next token, the rows due so far and the tree; or a refusal and its place
 pub data Reading : Type 0 where
@@ -78,7 +61,7 @@ module _ (text ts : List ℕ) (cap : ℕ) where
   nullOrNan at used x =
       elim (eqb (kindAt ts at) kind.NULL) [
         | true ↦ due (at + 1) used (unary row.is 0 x)
-        | false ↦ need kind.NAN needNullOrNan at λ at. due at used (unary row.is 1 x)
+        | false ↦ need kind.NAN NeedNullOrNan at λ at. due at used (unary row.is 1 x)
       ]
 
   -- a postfix operator after x: `!`, or IS and perhaps NOT
@@ -97,7 +80,7 @@ module _ (text ts : List ℕ) (cap : ℕ) where
 
   -- a postfix operator after the other, as long as the next one binds at m
   unfoldable pub postfixes : ℕ → ℕ → ℕ → Tree → Reading
-  postfixes m = while (λ at. binds (postfixOf (kindAt ts at)) m) postfix (suc (count ts))
+  postfixes m = while (λ at. binds (postfixOf (kindAt ts at)) m) postfix (suc (tokenCount ts))
 
   -- a number, by what its bytes are
   unfoldable pub numeral : Number → ℕ → ℕ → Reading
@@ -109,7 +92,7 @@ module _ (text ts : List ℕ) (cap : ℕ) where
   unfoldable pub column : ℕ → ℕ → Reading
   column at used =
       elim (eqb (kindAt ts (at + 1)) kind.period) [
-        | true ↦ need kind.ident needName (at + 2) λ next. due next used (leaf row.qualified at (at + 2))
+        | true ↦ need kind.ident NeedName (at + 2) λ next. due next used (leaf row.qualified at (at + 2))
         | false ↦ due (at + 1) used (leaf row.column at 0)
       ]
 
@@ -119,12 +102,12 @@ module _ (text ts : List ℕ) (cap : ℕ) where
     unfoldable pub group : ℕ → ℕ → Reading
     group at used = do
       (at, used, x) ← rec 0 (at + 1) used
-      need kind.closeParen needClose at λ at. done at used x
+      need kind.closeParen NeedClose at λ at. done at used x
 
     -- an argument, after a comma if it is not the first
     unfoldable pub argument : Trees → ℕ → ℕ → Reading
     argument none at used = rec 0 at used
-    argument (more xs x) at used = need kind.comma needComma at λ at. rec 0 at used
+    argument (more xs x) at used = need kind.comma NeedComma at λ at. rec 0 at used
 
     -- the arguments after xs of the function that token f names, up to the closing parenthesis: `turns` are enough, as for `while`
     unfoldable pub arguments : ℕ → ℕ → ℕ → ℕ → Trees → Reading
@@ -141,7 +124,7 @@ module _ (text ts : List ℕ) (cap : ℕ) where
     unfoldable pub named : ℕ → ℕ → Reading
     named at used =
         elim (eqb (kindAt ts (at + 1)) kind.openParen) [
-          | true ↦ arguments at (suc (count ts)) (at + 2) used none
+          | true ↦ arguments at (suc (tokenCount ts)) (at + 2) used none
           | false ↦ column at used
         ]
 
@@ -175,7 +158,7 @@ module _ (text ts : List ℕ) (cap : ℕ) where
 
     -- infix operators of at least m with their right sides, while there are any
     unfoldable pub infixes : ℕ → ℕ → ℕ → Tree → Reading
-    infixes m = while (λ at. binds (infixOf (kindAt ts at) .precedence) m) infixed (suc (count ts))
+    infixes m = while (λ at. binds (infixOf (kindAt ts at) .precedence) m) infixed (suc (tokenCount ts))
 
     -- reading at a minimum m
     unfoldable pub level : Reader
@@ -192,7 +175,7 @@ module _ (text ts : List ℕ) (cap : ℕ) where
 
   -- the expression has ended, and every token must be used
   unfoldable pub finish : ℕ → ℕ → Tree → Reading
-  finish at used x = elim (ltb at (count ts)) [ true ↦ refuse LeftOver at | false ↦ done at used x ]
+  finish at used x = elim (ltb at (tokenCount ts)) [ true ↦ refuse LeftOver at | false ↦ done at used x ]
 
   -- the whole is read at 0
   unfoldable pub whole : ℕ → Reading
@@ -202,4 +185,4 @@ module _ (text ts : List ℕ) (cap : ℕ) where
 
 -- the whole without a room limit: a table of as many rows as there are tokens is always large enough. No entry's promise names it
 unfoldable pub free : List ℕ → List ℕ → ℕ → Reading
-free text ts levels = whole text ts (count ts) levels
+free text ts levels = whole text ts (tokenCount ts) levels

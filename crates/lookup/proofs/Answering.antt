@@ -9,20 +9,20 @@ use borrow.Author.Tests.{lt-ltb, le-ltb, ltb-false}
 use lib.Dec.{ltb}
 use lib.ListN.{length, getD, take}
 use lib.Seq.{take-suc, take-length}
-use Rattle.tokens.specs.Limits.{rowsMax}
-use Rattle.tokens.specs.declared.refusal.Refusal.{Refusal}
-use Rattle.tokens.specs.declared.refusal.Refusal.the-variants as refusal
+use Rattle.limits.specs.Limits.{rowsMax, clausesMax, literalsMax}
+use Rattle.refusals.specs.declared.Refusal.{Refusal}
+use Rattle.refusals.specs.declared.Refusal.the-variants as refusal
 use Rattle.predicate.specs.Tree.{Tree, treeAt, Sound}
-use Rattle.rows.specs.Layout.{count}
+use Rattle.rows.specs.Layout.{rowCount}
 use Rattle.predicate.specs.Read.{Reading, readRows, checkedOf}
 use Rattle.predicate.specs.declared.Checked.{Checked}
 use Rattle.predicate.specs.declared.Checked.the-variants.{Good, Refused}
 use Rattle.predicate.proofs.Accepted.{accepted, checked-refused, checked-good}
-use Rattle.normal.specs.Clause.{clausesMax, literalsMax, Literal, clauses, total}
-use Rattle.normal.specs.Size.{sizeOf}
-use Rattle.normal.specs.declared.Size.{Size}
-use Rattle.normal.specs.declared.Size.the-variants as size
-use Rattle.normal.proofs.Sizes.{size-is, size-many}
+use Rattle.cnf.specs.Clause.{Literal, clauses, total}
+use Rattle.cnf.specs.Size.{sizeOf}
+use Rattle.cnf.specs.declared.Size.{Size}
+use Rattle.cnf.specs.declared.Size.the-variants as size
+use Rattle.cnf.proofs.Sizes.{size-is, size-many}
 use Rattle.lookup.specs.Cell.{isTrue}
 use Rattle.lookup.specs.Meaning.{World, clauseValue, anyMatch}
 use Rattle.columns.specs.Lookup.{Look, on, none, testIn, lookIn, lookOf}
@@ -92,11 +92,11 @@ pub record Rooted (text rows : List ℕ) (whole : ℕ) : Type 0 where
   pub low : whole - 1 < rowsMax
   pub same : (k : ℕ) → askedIn (clauses false (treeAt rows (whole - 1))) k ≡ asked (readRows text rows) k
 
-module _ (text rows : List ℕ) {v : Checked} (is : v ≡ checkedOf (count rows) (readRows text rows)) where
+module _ (text rows : List ℕ) {v : Checked} (is : v ≡ checkedOf (rowCount rows) (readRows text rows)) where
   pub rooted : {whole : ℕ} → v ≡ Good whole → Rooted text rows whole
   unfolding asked
   rooted {whole} e =
-      let z = checked-good (count rows) (readRows text rows) (sym is ∙ e) in
+      let z = checked-good (rowCount rows) (readRows text rows) (sym is ∙ e) in
       let y = accepted text rows (z .0) (z .1) in
       record {
         some = omega (arith, z .2, y .some);
@@ -109,7 +109,7 @@ module _ (text rows : List ℕ) {v : Checked} (is : v ≡ checkedOf (count rows)
 
   pub no-rows : {why : Refusal} {place : ℕ} (k : ℕ) → v ≡ Refused why place → refuse why place ≡ asked (readRows text rows) k
   unfolding asked
-  no-rows k e = sym (ap (λ (r : Reading). asked r k) (checked-refused (count rows) (readRows text rows) (sym is ∙ e)))
+  no-rows k e = sym (ap (λ (r : Reading). asked r k) (checked-refused (rowCount rows) (readRows text rows) (sym is ∙ e)))
 
 -- ---- the answers of the entries
 

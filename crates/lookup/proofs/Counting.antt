@@ -15,8 +15,8 @@ use Rattle.predicate.specs.Row.{shapeAt, arityOf, operandsOf}
 use Rattle.predicate.specs.Tree.{Tree, nodeOf, treeAt, Sound}
 use Rattle.predicate.specs.declared.Shape.{Shape}
 use Rattle.predicate.specs.declared.Shape.the-variants as shape
-use Rattle.normal.specs.Clause.{clauses, bit}
-use Rattle.normal.proofs.Sizes.{length-join, clauses-some}
+use Rattle.cnf.specs.Clause.{clauses, bit}
+use Rattle.cnf.proofs.Sizes.{length-join, clauses-some}
 use Rattle.lookup.specs.Find.{held, countOf, countIn, countsOf, Counted}
 use Rattle.lookup.specs.declared.counts.Counts.{Counts}
 use Rattle.predicate.proofs.Shapes.{node-at}

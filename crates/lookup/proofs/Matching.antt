@@ -11,8 +11,8 @@ use lib.Dec.{eqb, leb}
 use lib.Ieee.{Float, nan, inf, fin, eq, isNan}
 use Rattle.predicate.specs.Kind as kind
 use Rattle.predicate.specs.Tree.{Tree, leaf, unary, binary, both, either, negate}
-use Rattle.normal.specs.Kleene as kleene
-use Rattle.normal.specs.Clause.{Literal, literal}
+use Rattle.cnf.specs.Kleene as kleene
+use Rattle.cnf.specs.Clause.{Literal, literal}
 use Rattle.values.specs.Value.{valueOf, undefined}
 use Rattle.lookup.specs.Cell.{Cell, null, boolean, integer, float, string, cellOf, isNull, isNaN, same, truth, isTrue, equal, is, matches}
 use Rattle.columns.specs.Lookup.{leafOf, isColumn, isConstant, equalOf, isOf, testOf, on, none, testIn, tests, allTest, valueIn, valuesIn, lookOn, lookFrom, lookIn, lookOf}

@@ -12,14 +12,15 @@ use borrow.Author.Tests.{ltb-true, ltb-false}
 use lib.Dec.{ltb}
 use lib.ListN.{length, getD, length-map, length-append, List·getD-append}
 use lib.Seq.{getD-append-add}
+use Rattle.limits.specs.Limits.{clausesMax, literalsMax}
 use Rattle.predicate.specs.Tree.{treeAt, Sound}
 use Rattle.predicate.proofs.Trees.{sound-below}
-use Rattle.normal.specs.Clause.{clausesMax, literalsMax, Literal, literal, cross, join, clauses, total, bit}
-use Rattle.normal.specs.Part.{partAt}
-use Rattle.normal.specs.declared.Part.{Part}
-use Rattle.normal.specs.declared.Part.the-variants.{Here, Join}
-use Rattle.normal.proofs.Sizes.{length-cross, total-append, total-cross, clauses-some}
-use Rattle.normal.proofs.Rows.{part-is}
+use Rattle.cnf.specs.Clause.{Literal, literal, cross, join, clauses, total, bit}
+use Rattle.cnf.specs.Part.{partAt}
+use Rattle.cnf.specs.declared.Part.{Part}
+use Rattle.cnf.specs.declared.Part.the-variants.{Here, Join}
+use Rattle.cnf.proofs.Sizes.{length-cross, total-append, total-cross, clauses-some}
+use Rattle.cnf.proofs.Rows.{part-is}
 use Rattle.columns.specs.Lookup.{testIn}
 use Rattle.columns.specs.Gather.{gather, gatherAll, values}
 use Rattle.lookup.specs.Find.{held, countOf, Ready, gatheredOf, turnOf}

@@ -17,10 +17,10 @@ use Rattle.predicate.specs.declared.Shape.the-variants as shape
 use Rattle.predicate.specs.Read.{one, readRows}
 use Rattle.predicate.proofs.Trees.{sound-below, tree-step}
 use Rattle.predicate.proofs.Accepted.{accepted}
-use Rattle.normal.specs.Kleene as kleene
-use Rattle.normal.specs.Clause.{Literal, literal, cross, join, clauses, code}
-use Rattle.normal.proofs.Crossing.{before}
-use Rattle.normal.proofs.Meaning.{OR-assoc, any-append, row-code, negated-code}
+use Rattle.cnf.specs.Kleene as kleene
+use Rattle.cnf.specs.Clause.{Literal, literal, cross, join, clauses, code}
+use Rattle.cnf.proofs.Crossing.{before}
+use Rattle.cnf.proofs.Meaning.{OR-assoc, any-append, row-code, negated-code}
 use Rattle.lookup.specs.Meaning.{World, predicateValue, literalValue, clauseValue}
 
 module _ (text : List ℕ) (world : World) (ρ : ℕ → kleene.Value) where

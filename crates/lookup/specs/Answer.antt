@@ -5,12 +5,13 @@ use mathlib.Core.Bool.{true, false, _||_}
 use mathlib.Core.List.{List, [], _∷_, _++_}
 use lib.ListN.{length, getD}
 use lib.Dec.{ltb}
+use Rattle.limits.specs.Limits.{clausesMax, literalsMax}
 use Rattle.predicate.specs.Tree.{Tree}
 use Rattle.predicate.specs.Read.{Reading, one, refused, readRows}
-use Rattle.normal.specs.Clause.{clausesMax, literalsMax, Literal, clauses, total}
+use Rattle.cnf.specs.Clause.{Literal, clauses, total}
 use Rattle.columns.specs.Lookup.{Look, on, none, lookOf}
-use Rattle.tokens.specs.declared.refusal.Refusal.{Refusal}
-use Rattle.tokens.specs.declared.refusal.Refusal.the-variants.{TooMany, NotLookup, NoSuch}
+use Rattle.refusals.specs.declared.Refusal.{Refusal}
+use Rattle.refusals.specs.declared.Refusal.the-variants.{TooMany, NotLookup, NoSuch}
 use Rattle.values.specs.declared.Value.{Value}
 use Rattle.values.specs.declared.Value.the-variants.{Null}
 use Rattle.lookup.specs.Cell.{isTrue}

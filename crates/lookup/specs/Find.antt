@@ -6,10 +6,10 @@ use mathlib.Core.Bool.{Bool, true, false}
 use mathlib.Core.List.{List, [], map}
 use lib.ListN.{length, getD}
 use lib.Dec.{ltb}
-use Rattle.tokens.specs.Limits.{rowsMax}
-use Rattle.tokens.specs.declared.refusal.Refusal.the-variants as refusal
+use Rattle.limits.specs.Limits.{rowsMax, clausesMax, literalsMax}
+use Rattle.refusals.specs.declared.Refusal.the-variants as refusal
 use Rattle.predicate.specs.Tree.{treeAt, Sound}
-use Rattle.normal.specs.Clause.{clausesMax, literalsMax, clauses, total, bit}
+use Rattle.cnf.specs.Clause.{clauses, total, bit}
 use Rattle.columns.specs.Lookup.{testIn}
 use Rattle.columns.specs.Gather.{gatherAll, values}
 use Rattle.values.specs.declared.Value.the-variants.{Null}

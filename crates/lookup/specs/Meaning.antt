@@ -5,8 +5,8 @@ use mathlib.Core.List.{List, [], _∷_}
 use lib.Dec.{eqb}
 use Rattle.predicate.specs.Kind as kind
 use Rattle.predicate.specs.Tree.{Tree, leaf, unary, binary, both, either, negate}
-use Rattle.normal.specs.Kleene as kleene
-use Rattle.normal.specs.Clause.{Literal, literal}
+use Rattle.cnf.specs.Kleene as kleene
+use Rattle.cnf.specs.Clause.{Literal, literal}
 use Rattle.values.specs.Value.{valueOf}
 use Rattle.values.specs.declared.Value.{Value}
 use Rattle.lookup.specs.Cell.{Cell, cellOf, equal, is, matches}

@@ -1,9 +1,9 @@
 // One clause of a predicate by its number, whatever the others are.
 use crate::counts::count_at;
+use cnf::Part;
+use cnf::part_at;
 use columns::gather::Gathered;
 use columns::gather::gather_at;
-use normal::Part;
-use normal::part_at;
 ghost use mathlib.Core.Path.{_≡_};
 ghost use Rattle.lookup.specs.Find.{Ready, turnOf, gatheredOf};
 

@@ -6,7 +6,7 @@ ghost use mathlib.Core.Bool.{Bool};
 ghost use Prim.Native.Nat.{_+_, _*_, _<_, _≤_, min};
 ghost use lib.ListN.{length, getD};
 ghost use Rattle.predicate.specs.Tree.{Sound};
-ghost use Rattle.normal.specs.Clause.{bit};
+ghost use Rattle.cnf.specs.Clause.{bit};
 ghost use Rattle.lookup.specs.Find.{held, countIn, one, countsOf, Counted};
 
 // The clauses of a row in both readings, held at one more than the most that are listed.

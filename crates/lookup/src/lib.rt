@@ -4,11 +4,11 @@
 // the others: its literals are met one after the other, and what they test is gathered.
 // docs/FORMAT.md has the rules; specs/ has them as definitions.
 use clause::visit;
+use cnf::Size;
 use columns::gather::Gathered;
 use counts::count_all;
-use normal::Size;
 use predicate::Checked;
-use tokens::refusal::Refusal;
+use refusals::Refusal;
 use values::Value;
 
 mod clause;
@@ -18,10 +18,10 @@ ghost use mathlib.Core.Path.{_≡_};
 ghost use mathlib.Core.Bool.{false};
 ghost use Prim.Native.Nat.{_*_, _+_, _<_, _≤_};
 ghost use lib.ListN.{length};
-ghost use Rattle.tokens.specs.Limits.{rowsMax};
+ghost use Rattle.limits.specs.Limits.{rowsMax, clausesMax, literalsMax};
 ghost use Rattle.predicate.specs.Tree.{treeAt, Sound};
 ghost use Rattle.predicate.specs.Read.{readRows};
-ghost use Rattle.normal.specs.Clause.{clausesMax, literalsMax, clauses as clausesOf, total};
+ghost use Rattle.cnf.specs.Clause.{clauses as clausesOf, total};
 ghost use Rattle.lookup.specs.Answer.{asked as askedBy, askedIn, foundOf, LooksUp};
 ghost use Rattle.lookup.specs.Find.{gatheredOf, answerOf, answered as answeredOf};
 
@@ -85,7 +85,7 @@ fn asked_at(rows: &[u64], last: usize, clause: usize, n: usize) -> Answer
     requires { ⌜ Sound (now rows) last × (last < rowsMax) ⌝ }
     ensures { λ a. ⌜ a ≡ answerOf n (askedIn (clausesOf false (treeAt (now (rows .entry)) last)) clause) ⌝ }
 {
-    let s = normal::count(rows, last, false);
+    let s = cnf::count(rows, last, false);
     let Size::Is(c, _) = s else {
         return Answer::Refused(Refusal::TooMany, 0);
     };

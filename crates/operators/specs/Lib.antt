@@ -1,3 +1,2 @@
--- What the contracts of `operators` say, as definitions: read Kind for the rows that a reading writes, then Operator.
-pub mod Kind
+-- What the contracts of `operators` say, as definitions.
 pub mod Operator

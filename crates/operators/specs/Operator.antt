@@ -5,7 +5,7 @@ use mathlib.Core.Bool.{Bool, true, false, _&&_}
 use mathlib.Core.List.{List, [], _∷_}
 use lib.Dec.{eqb, ltb, leb}
 use Rattle.tokens.specs.Kind as kind
-use Rattle.operators.specs.Kind as row
+use Rattle.syntax.specs.Kind as row
 use Rattle.operators.specs.declared.operator.Start.{Start}
 use Rattle.operators.specs.declared.operator.Start.the-variants.{Nothing, Number, Text, Name, Paren, Plain, Other}
 

@@ -1,5 +1,5 @@
 // Operators, and what an atom starts with, by the kind of a token.
-use crate::kind as row;
+use syntax::kind as row;
 use tokens::kind;
 ghost use mathlib.Core.Path.{_≡_};
 ghost use mathlib.Core.Bool.{true};

@@ -10,10 +10,10 @@ use native.Mathlib.Omega.{arith}
 use lib.ListN.{length}
 use lib.Dec.{ltb}
 use borrow.Author.Tests.{ltb-false, eqb-true}
-use Rattle.tokens.specs.Limits.{textMax, rowsMax}
-use Rattle.tokens.specs.declared.refusal.Refusal.{Refusal}
-use Rattle.rows.specs.Layout.{width, count, onlyWhole}
-use Rattle.rows.specs.Whole.{Subtree, Next}
+use Rattle.limits.specs.Limits.{textMax, rowsMax}
+use Rattle.refusals.specs.declared.Refusal.{Refusal}
+use Rattle.rows.specs.Layout.{width, rowCount, onlyWhole}
+use Rattle.rows.specs.PostOrder.{Subtree, Next}
 use Rattle.predicate.specs.Row.{shapeAt, arityOf}
 use Rattle.predicate.specs.Tree.{Tree, treeAt, firstAt, Falls, Sound}
 use Rattle.predicate.specs.Read.{Reading, one, refused, ended, andThen, readFrom, readRows, checkedOf}
@@ -23,13 +23,13 @@ use Rattle.predicate.proofs.Stacks.{Tiles, step-is}
 use Rattle.predicate.proofs.Reading.{by-tests}
 
 pub record Accepted (text l : List ℕ) (t : Tree) : Type 0 where
-  pub some : 0 < count l
-  pub small : count l ≤ rowsMax
-  pub even : length l ≡ count l * width
-  pub good : (q : ℕ) → q < count l → goodAt text l q ≡ true
-  pub sound : Sound l (count l - 1)
-  pub first : firstAt l (count l - 1) ≡ 0
-  pub tree : t ≡ treeAt l (count l - 1)
+  pub some : 0 < rowCount l
+  pub small : rowCount l ≤ rowsMax
+  pub even : length l ≡ rowCount l * width
+  pub good : (q : ℕ) → q < rowCount l → goodAt text l q ≡ true
+  pub sound : Sound l (rowCount l - 1)
+  pub first : firstAt l (rowCount l - 1) ≡ 0
+  pub tree : t ≡ treeAt l (rowCount l - 1)
 
 -- a refusal is no tree
 never {ℓ} : {X : Type ℓ} {why : Refusal} {place : ℕ} {t : Tree} → refused why place ≡ one t → X
@@ -68,7 +68,7 @@ module _ (text l : List ℕ) (t : Tree) where
       }
   at-end r (w ∷ v ∷ stack) p e = never e
 
-  each : (left r : ℕ) (stack : List (Subtree Tree)) → left + r ≡ count l → Passed r stack → readFrom text l left r stack ≡ one t → Last (left + r)
+  each : (left r : ℕ) (stack : List (Subtree Tree)) → left + r ≡ rowCount l → Passed r stack → readFrom text l left r stack ≡ one t → Last (left + r)
   unfolding readFrom andThen
   each zero r stack e p f = let z : r ≡ 0 + r = omega arith in subst Last z (at-end r stack p f)
   each (suc left) r stack e p f = go (λ next i d g. each left (r + 1) next i d g) (goodAt text l r) refl
@@ -80,7 +80,7 @@ module _ (text l : List ℕ) (t : Tree) where
       more q k d (yes i) = ap (goodAt text l) i ∙ d
       more q k d (no n) = p .good q (omega arith)
 
-      go : ((next : List (Subtree Tree)) → left + (r + 1) ≡ count l → Passed (r + 1) next → readFrom text l left (r + 1) next ≡ one t → Last (left + (r + 1)))
+      go : ((next : List (Subtree Tree)) → left + (r + 1) ≡ rowCount l → Passed (r + 1) next → readFrom text l left (r + 1) next ≡ one t → Last (left + (r + 1)))
           → (b : Bool) → goodAt text l r ≡ b → Last (suc left + r)
       go after true g =
           let z = step-is text l r stack here g (p .tiles) in
@@ -93,16 +93,16 @@ module _ (text l : List ℕ) (t : Tree) where
   -- ---- the tests before that
 
   module _ (e : readRows text l ≡ one t) where
-    all-tests : (b c : Bool) → (ltb textMax (length text) || ltb rowsMax (count l)) ≡ b → onlyWhole l ≡ c → Accepted text l t
+    all-tests : (b c : Bool) → (ltb textMax (length text) || ltb rowsMax (rowCount l)) ≡ b → onlyWhole l ≡ c → Accepted text l t
     all-tests true c d f = never (sym (by-tests text l true c d f) ∙ e)
     all-tests false false d f = never (sym (by-tests text l false false d f) ∙ e)
     all-tests false true d f =
-        let z : Last (count l) = subst Last (omega arith) (each (count l) 0 [] (omega arith)
+        let z : Last (rowCount l) = subst Last (omega arith) (each (rowCount l) 0 [] (omega arith)
         (record { good = λ q k. absurd (omega arith); falls = λ q k. absurd (omega arith); tiles = refl })
         (sym (by-tests text l false true d f) ∙ e)) in
         record {
           some = z .some;
-          small = ltb-false rowsMax (count l) (second (ltb textMax (length text)) (ltb rowsMax (count l)) d);
+          small = ltb-false rowsMax (rowCount l) (second (ltb textMax (length text)) (ltb rowsMax (rowCount l)) d);
           even = omega (arith, eqb-true (length l % width) 0 f, div-add-mod' (length l) width);
           good = z .good;
           sound = record { there = omega (arith, z .some); falls = λ q k. z .falls q (omega (arith, z .some)) };
@@ -116,7 +116,7 @@ module _ (text l : List ℕ) (t : Tree) where
         second false q g = g
 
     pub accepted : Accepted text l t
-    accepted = all-tests (ltb textMax (length text) || ltb rowsMax (count l)) (onlyWhole l) refl refl
+    accepted = all-tests (ltb textMax (length text) || ltb rowsMax (rowCount l)) (onlyWhole l) refl refl
 
 -- ---- what the check's answer says of the reading
 

@@ -10,10 +10,10 @@ use native.Mathlib.Omega.{arith}
 use lib.ListN.{length}
 use lib.Dec.{ltb}
 use borrow.Author.Tests.{lt-ltb, le-ltb}
-use Rattle.tokens.specs.Limits.{textMax, rowsMax}
-use Rattle.tokens.specs.declared.refusal.Refusal.the-variants.{TooLong, BadTree}
-use Rattle.rows.specs.Layout.{count, onlyWhole}
-use Rattle.rows.specs.Whole.{Subtree, Next, bad, on}
+use Rattle.limits.specs.Limits.{textMax, rowsMax}
+use Rattle.refusals.specs.declared.Refusal.the-variants.{TooLong, BadTree}
+use Rattle.rows.specs.Layout.{rowCount, onlyWhole}
+use Rattle.rows.specs.PostOrder.{Subtree, Next, bad, on}
 use Rattle.predicate.specs.Row.{shapeAt, arityOf}
 use Rattle.predicate.specs.Tree.{Tree, treeAt, firstAt, Falls, Sound}
 use Rattle.predicate.specs.Read.{one, refused, stepAt, ended, andThen, readFrom, readRows, checkedOf}
@@ -22,11 +22,11 @@ use Rattle.predicate.specs.declared.Checked.the-variants.{Good, Refused}
 use Rattle.predicate.proofs.Stacks.{Tiles, step-is}
 
 pub record Reads (text l : List ℕ) (r : ℕ) : Type 0 where
-  pub within : r ≤ count l
+  pub within : r ≤ rowCount l
   pub falls : (q : ℕ) → q < r → Falls (arityOf (shapeAt l q)) q
   pub stack : List (Subtree Tree)
   pub tiles : Tiles l r stack
-  pub rest : (left : ℕ) → left + r ≡ count l → readFrom text l left r stack ≡ readFrom text l (count l) 0 []
+  pub rest : (left : ℕ) → left + r ≡ rowCount l → readFrom text l left r stack ≡ readFrom text l (rowCount l) 0 []
 
 pub begins : (text l : List ℕ) → Reads text l 0
 begins text l = record {
@@ -34,17 +34,17 @@ begins text l = record {
   falls = λ q h. absurd (omega arith);
   stack = [];
   tiles = refl;
-  rest = λ left e. let z : left ≡ count l = omega arith in ap (λ (n : ℕ). readFrom text l n 0 []) z;
+  rest = λ left e. let z : left ≡ rowCount l = omega arith in ap (λ (n : ℕ). readFrom text l n 0 []) z;
 }
 
 module _ {text l : List ℕ} {r : ℕ} (p : Reads text l r) where
-  pub below-of : r < count l → Below l r
+  pub below-of : r < rowCount l → Below l r
   below-of h = record { there = h; falls = p .falls }
 
   pub sound-last : {q : ℕ} → q + 1 ≡ r → Sound l q
   sound-last e = record { there = omega (arith, p .within); falls = λ i h. p .falls i (omega arith) }
 
-  module _ (h : r < count l) where
+  module _ (h : r < rowCount l) where
     read-on : (left : ℕ) (n : Next Tree) → stepAt text l r (p .stack) ≡ n → readFrom text l (suc left) r (p .stack) ≡ andThen r n (readFrom text l left (r + 1))
     unfolding readFrom
     read-on left n e = ap (λ (m : Next Tree). andThen r m (readFrom text l left (r + 1))) e
@@ -61,33 +61,33 @@ module _ {text l : List ℕ} {r : ℕ} (p : Reads text l r) where
           rest = λ left d. sym (read-on left (on (z .0)) (z .1)) ∙ p .rest (suc left) (omega arith);
         }
 
-    pub stops : goodAt text l r ≡ false → Refused BadTree r ≡ checkedOf (count l) (readFrom text l (count l) 0 [])
+    pub stops : goodAt text l r ≡ false → Refused BadTree r ≡ checkedOf (rowCount l) (readFrom text l (rowCount l) 0 [])
     unfolding andThen checkedOf
     stops e =
-        let left = count l - suc r in
-        ap (checkedOf (count l)) (sym (read-on left bad (step-is text l r (p .stack) (below-of h) e (p .tiles))) ∙ p .rest (suc left) (omega arith))
+        let left = rowCount l - suc r in
+        ap (checkedOf (rowCount l)) (sym (read-on left bad (step-is text l r (p .stack) (below-of h) e (p .tiles))) ∙ p .rest (suc left) (omega arith))
 
-pub ends-none : (text l : List ℕ) → count l ≡ 0 → Refused BadTree 0 ≡ checkedOf (count l) (readFrom text l (count l) 0 [])
+pub ends-none : (text l : List ℕ) → rowCount l ≡ 0 → Refused BadTree 0 ≡ checkedOf (rowCount l) (readFrom text l (rowCount l) 0 [])
 unfolding checkedOf readFrom ended
 ends-none text l e = ap (λ (n : ℕ). checkedOf n (readFrom text l n 0 [])) (sym e)
 
-module _ {text l : List ℕ} {r : ℕ} (last : ℕ) (p : Reads text l r) (h : count l ≤ r) (e : last + 1 ≡ r) where
-  is-all : ended r (p .stack) ≡ readFrom text l (count l) 0 []
+module _ {text l : List ℕ} {r : ℕ} (last : ℕ) (p : Reads text l r) (h : rowCount l ≤ r) (e : last + 1 ≡ r) where
+  is-all : ended r (p .stack) ≡ readFrom text l (rowCount l) 0 []
   unfolding readFrom
   is-all = p .rest 0 (omega (arith, p .within))
 
-  pub ends-one : firstAt l last ≡ 0 → Good (count l) ≡ checkedOf (count l) (readFrom text l (count l) 0 [])
+  pub ends-one : firstAt l last ≡ 0 → Good (rowCount l) ≡ checkedOf (rowCount l) (readFrom text l (rowCount l) 0 [])
   unfolding checkedOf ended
-  ends-one z = ap (checkedOf (count l)) (go (p .stack) (p .tiles)) ∙ ap (checkedOf (count l)) is-all
+  ends-one z = ap (checkedOf (rowCount l)) (go (p .stack) (p .tiles)) ∙ ap (checkedOf (rowCount l)) is-all
     where
       go : (s : List (Subtree Tree)) → Tiles l r s → one (treeAt l last) ≡ ended r s
       go [] t = absurd (omega arith)
       go (w ∷ []) t = let q : last ≡ t .0 = omega (arith, t .1) in ap one (ap (treeAt l) q ∙ sym (t .2))
       go (w ∷ v ∷ s) t = let q : last ≡ t .0 = omega (arith, t .1) in absurd (omega (arith, t .3, ap (firstAt l) q, t .4 .1))
 
-  pub ends-many : (firstAt l last ≡ 0 → ⊥) → Refused BadTree last ≡ checkedOf (count l) (readFrom text l (count l) 0 [])
+  pub ends-many : (firstAt l last ≡ 0 → ⊥) → Refused BadTree last ≡ checkedOf (rowCount l) (readFrom text l (rowCount l) 0 [])
   unfolding checkedOf ended
-  ends-many n = ap (checkedOf (count l)) (go (p .stack) (p .tiles)) ∙ ap (checkedOf (count l)) is-all
+  ends-many n = ap (checkedOf (rowCount l)) (go (p .stack) (p .tiles)) ∙ ap (checkedOf (rowCount l)) is-all
     where
       go : (s : List (Subtree Tree)) → Tiles l r s → refused BadTree last ≡ ended r s
       go [] t = absurd (omega arith)
@@ -98,24 +98,24 @@ module _ {text l : List ℕ} {r : ℕ} (last : ℕ) (p : Reads text l r) (h : co
 
 module _ (text l : List ℕ) where
   -- the reading, with its tests' outcomes
-  pub by-tests : (b c : Bool) → (ltb textMax (length text) || ltb rowsMax (count l)) ≡ b → onlyWhole l ≡ c
-      → readRows text l ≡ elim b [ true ↦ refused TooLong 0 | false ↦ elim c [ true ↦ readFrom text l (count l) 0 [] | false ↦ refused BadTree (count l) ] ]
+  pub by-tests : (b c : Bool) → (ltb textMax (length text) || ltb rowsMax (rowCount l)) ≡ b → onlyWhole l ≡ c
+      → readRows text l ≡ elim b [ true ↦ refused TooLong 0 | false ↦ elim c [ true ↦ readFrom text l (rowCount l) 0 [] | false ↦ refused BadTree (rowCount l) ] ]
   unfolding readRows
   by-tests b c e d =
-      ap₂ (λ (p : Bool) (q : Bool). elim p [ true ↦ refused TooLong 0 | false ↦ elim q [ true ↦ readFrom text l (count l) 0 [] | false ↦ refused BadTree (count l) ] ]) e d
+      ap₂ (λ (p : Bool) (q : Bool). elim p [ true ↦ refused TooLong 0 | false ↦ elim q [ true ↦ readFrom text l (rowCount l) 0 [] | false ↦ refused BadTree (rowCount l) ] ]) e d
 
   pub long-text : textMax < length text → readRows text l ≡ refused TooLong 0
-  long-text h = by-tests true (onlyWhole l) (ap (λ (b : Bool). b || ltb rowsMax (count l)) (lt-ltb textMax (length text) h)) refl
+  long-text h = by-tests true (onlyWhole l) (ap (λ (b : Bool). b || ltb rowsMax (rowCount l)) (lt-ltb textMax (length text) h)) refl
 
-  pub long-rows : length text ≤ textMax → rowsMax < count l → readRows text l ≡ refused TooLong 0
-  long-rows h k = by-tests true (onlyWhole l) (ap₂ _||_ (le-ltb textMax (length text) h) (lt-ltb rowsMax (count l) k)) refl
+  pub long-rows : length text ≤ textMax → rowsMax < rowCount l → readRows text l ≡ refused TooLong 0
+  long-rows h k = by-tests true (onlyWhole l) (ap₂ _||_ (le-ltb textMax (length text) h) (lt-ltb rowsMax (rowCount l) k)) refl
 
-  module _ (h : length text ≤ textMax) (k : count l ≤ rowsMax) where
-    short : (ltb textMax (length text) || ltb rowsMax (count l)) ≡ false
-    short = ap₂ _||_ (le-ltb textMax (length text) h) (le-ltb rowsMax (count l) k)
+  module _ (h : length text ≤ textMax) (k : rowCount l ≤ rowsMax) where
+    short : (ltb textMax (length text) || ltb rowsMax (rowCount l)) ≡ false
+    short = ap₂ _||_ (le-ltb textMax (length text) h) (le-ltb rowsMax (rowCount l) k)
 
-    pub ragged : onlyWhole l ≡ false → readRows text l ≡ refused BadTree (count l)
+    pub ragged : onlyWhole l ≡ false → readRows text l ≡ refused BadTree (rowCount l)
     ragged e = by-tests false false short e
 
-    pub in-turn : onlyWhole l ≡ true → readRows text l ≡ readFrom text l (count l) 0 []
+    pub in-turn : onlyWhole l ≡ true → readRows text l ≡ readFrom text l (rowCount l) 0 []
     in-turn e = by-tests false true short e

@@ -11,7 +11,7 @@ use lib.Dec.{eqb}
 use borrow.Author.Tests.{eqb-true}
 use Rattle.rows.specs.Layout.{rowAt}
 use Rattle.rows.proofs.Standing.{took, missed}
-use Rattle.rows.specs.Whole.{Subtree, at, off, found, before, directlyBefore, bad, on, push}
+use Rattle.rows.specs.PostOrder.{Subtree, at, off, found, before, directlyBefore, bad, on, push}
 use Rattle.predicate.specs.Row.{classOf, allowedOf, shapeAt, arityOf, operandsOf}
 use Rattle.predicate.specs.Tree.{Tree, nodeOf, treeAt, firstAt, Falls, Sound}
 use Rattle.predicate.specs.Read.{stepAt}

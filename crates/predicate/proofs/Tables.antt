@@ -8,7 +8,7 @@ use mathlib.Core.List.{List, [], _∷_, _++_, map}
 use native.Mathlib.Omega.{arith}
 use lib.Dec.{eqb}
 use borrow.Author.Tests.{eqb-true}
-use Rattle.rows.specs.Layout.{count, numbers, rowAt}
+use Rattle.rows.specs.Layout.{rowCount, numbers, rowAt}
 use Rattle.rows.specs.declared.Row.{Row}
 use Rattle.rows.proofs.Parts.{partOf, parts-join, part-none, row-part, part-all}
 use Rattle.predicate.specs.Kind as kind
@@ -142,9 +142,9 @@ module _ (text l : List ℕ) where
 pub rows-of-tree : (text l : List ℕ) (t : Tree) → readRows text l ≡ one t → tableOf t ≡ l
 rows-of-tree text l t e =
     let a : Accepted text l t = accepted text l t e in
-    let n : count l - 1 + 1 ≡ count l = omega (arith, a .some) in
+    let n : rowCount l - 1 + 1 ≡ rowCount l = omega (arith, a .some) in
     ap tableOf (a .tree)
-    ∙ spelled-under text l (count l) (count l - 1) (omega (arith, a .some)) (a .sound) (λ q h. a .good q (omega (arith, a .some)))
+    ∙ spelled-under text l (rowCount l) (rowCount l - 1) (omega (arith, a .some)) (a .sound) (λ q h. a .good q (omega (arith, a .some)))
     ∙ ap₂ (partOf l) (a .first) n
     ∙ part-all l (a .even)
 
@@ -152,4 +152,4 @@ rows-of-tree text l t e =
 pub same-rows : (text text' l l' : List ℕ) (t t' : Tree) → readRows text l ≡ one t → readRows text' l' ≡ one t' → tableOf t ≡ tableOf t' → t ≡ t'
 same-rows text text' l l' t t' e e' d =
     let same : l ≡ l' = sym (rows-of-tree text l t e) ∙ d ∙ rows-of-tree text' l' t' e' in
-    accepted text l t e .tree ∙ ap (λ (i : List ℕ). treeAt i (count i - 1)) same ∙ sym (accepted text' l' t' e' .tree)
+    accepted text l t e .tree ∙ ap (λ (i : List ℕ). treeAt i (rowCount i - 1)) same ∙ sym (accepted text' l' t' e' .tree)

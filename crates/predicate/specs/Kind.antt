@@ -75,7 +75,3 @@ subtract = 23
 
 abbrev pub like : ℕ
 like = 24
-
--- the largest column number
-abbrev pub columnMax : ℕ
-columnMax = 65_535

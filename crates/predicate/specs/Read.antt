@@ -4,11 +4,11 @@ use mathlib.Core.Bool.{true, false, _||_}
 use mathlib.Core.List.{List, [], _∷_, map}
 use lib.ListN.{length}
 use lib.Dec.{ltb}
-use Rattle.tokens.specs.Limits.{textMax, rowsMax}
-use Rattle.tokens.specs.declared.refusal.Refusal.{Refusal}
-use Rattle.tokens.specs.declared.refusal.Refusal.the-variants.{TooLong, BadTree}
-use Rattle.rows.specs.Layout.{count, onlyWhole, rowAt}
-use Rattle.rows.specs.Whole.{Subtree, at, directlyBefore, Next, bad, on, push}
+use Rattle.limits.specs.Limits.{textMax, rowsMax}
+use Rattle.refusals.specs.declared.Refusal.{Refusal}
+use Rattle.refusals.specs.declared.Refusal.the-variants.{TooLong, BadTree}
+use Rattle.rows.specs.Layout.{rowCount, onlyWhole, rowAt}
+use Rattle.rows.specs.PostOrder.{Subtree, at, directlyBefore, Next, bad, on, push}
 use Rattle.predicate.specs.Row.{classOf, allowedOf, shapeAt, arityOf, operandsOf}
 use Rattle.predicate.specs.Tree.{Tree, nodeOf}
 use Rattle.predicate.specs.declared.Checked.{Checked}
@@ -46,12 +46,12 @@ readFrom text l (suc left) r stack = andThen r (stepAt text l r stack) (readFrom
 -- a text or rows that are too long; then a length that is no multiple of a row's; then no rows (by `ended`), or each row in turn
 unfoldable pub readRows : List ℕ → List ℕ → Reading
 readRows text l =
-    elim (ltb textMax (length text) || ltb rowsMax (count l)) [
+    elim (ltb textMax (length text) || ltb rowsMax (rowCount l)) [
       | true ↦ refused TooLong 0
       | false ↦
           elim (onlyWhole l) [
-            | true ↦ readFrom text l (count l) 0 []
-            | false ↦ refused BadTree (count l)
+            | true ↦ readFrom text l (rowCount l) 0 []
+            | false ↦ refused BadTree (rowCount l)
           ]
     ]
 

@@ -4,6 +4,7 @@ use mathlib.Core.Bool.{Bool, true, false, _&&_, _||_}
 use mathlib.Core.List.{List, [], _∷_}
 use lib.ListN.{length}
 use lib.Dec.{leb, eqb}
+use Rattle.limits.specs.Limits.{columnMax}
 use Rattle.rows.specs.Layout.{rowAt}
 use Rattle.rows.specs.declared.Row.{Row}
 use Rattle.predicate.specs.Kind as kind
@@ -53,7 +54,7 @@ allowedOf text class.Null x y = eqb x 0 && eqb y 0
 allowedOf text class.Boolean x y = leb x 1 && eqb y 0
 allowedOf text class.Number x y = eqb y 0
 allowedOf text class.Text x y = leb (x + y) (length text)
-allowedOf text class.Column x y = leb x kind.columnMax && eqb y 0
+allowedOf text class.Column x y = leb x columnMax && eqb y 0
 allowedOf text class.And x y = true
 allowedOf text class.Or x y = true
 allowedOf text class.Not x y = eqb y 0

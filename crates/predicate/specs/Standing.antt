@@ -3,7 +3,7 @@ use Prim.Native.Nat.{ℕ, _+_, _<_}
 use mathlib.Core.Bool.{Bool, true, _&&_}
 use mathlib.Core.List.{List}
 use lib.Dec.{eqb}
-use Rattle.rows.specs.Layout.{count, rowAt}
+use Rattle.rows.specs.Layout.{rowCount, rowAt}
 use Rattle.predicate.specs.Row.{classOf, allowedOf, shapeAt, arityOf}
 use Rattle.predicate.specs.Tree.{firstAt, Falls}
 use Rattle.predicate.specs.declared.Arity.{Arity}
@@ -11,7 +11,7 @@ use Rattle.predicate.specs.declared.Arity.the-variants as arity
 
 -- row r is there, and the operands of each row before it stand before that
 pub record Below (l : List ℕ) (r : ℕ) : Type 0 where
-  pub there : r < count l
+  pub there : r < rowCount l
   pub falls : (q : ℕ) → q < r → Falls (arityOf (shapeAt l q)) q
 
 -- the operands' whole subtrees stand directly before row r

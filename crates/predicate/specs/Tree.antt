@@ -2,7 +2,7 @@
 use Prim.Native.Nat.{ℕ, zero, suc, _<_, _≤_}
 use mathlib.Core.List.{List, [], _∷_, _++_, map}
 use lib.ListN.{getD}
-use Rattle.rows.specs.Layout.{count, numbers, rowAt}
+use Rattle.rows.specs.Layout.{rowCount, numbers, rowAt}
 use Rattle.rows.specs.declared.Row.{Row}
 use Rattle.predicate.specs.Kind as kind
 use Rattle.predicate.specs.Row.{shapeAt, arityOf, operandsOf}
@@ -81,5 +81,5 @@ Falls (arity.Two x y) r = (x < r) × (y < r)
 
 -- rows 0 to r are there, and the operands of each stand before it
 pub record Sound (l : List ℕ) (r : ℕ) : Type 0 where
-  pub there : r < count l
+  pub there : r < rowCount l
   pub falls : (q : ℕ) → q ≤ r → Falls (arityOf (shapeAt l q)) q

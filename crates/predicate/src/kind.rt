@@ -50,6 +50,3 @@ pub const SQUARE_ROOT: u64 = 22;
 pub const SUBTRACT: u64 = 23;
 
 pub const LIKE: u64 = 24;
-
-// The largest column number.
-pub const COLUMN_MAX: u64 = 65535;

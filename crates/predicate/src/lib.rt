@@ -3,10 +3,11 @@
 // Rows stand in post-order, three numbers each: kind, x and y. One pass over them says whether they are one whole tree, and keeps no table:
 // a row's left side is found by going from its right side down to the first row of that.
 // docs/FORMAT.md has the rules; specs/ has them as definitions.
+use limits::COLUMN_MAX;
+use limits::ROWS_MAX;
+use limits::TEXT_MAX;
+use refusals::Refusal;
 use rows::Row;
-use tokens::limits::ROWS_MAX;
-use tokens::limits::TEXT_MAX;
-use tokens::refusal::Refusal;
 
 pub mod kind;
 
@@ -15,7 +16,7 @@ ghost use mathlib.Core.List.{[]};
 ghost use Prim.Native.Nat.{ℕ, _+_, _<_};
 ghost use lib.ListN.{length};
 ghost use lib.Dec.{leb};
-ghost use Rattle.rows.specs.Layout.{count as countOf};
+ghost use Rattle.rows.specs.Layout.{rowCount};
 ghost use Rattle.predicate.specs.Row.{classOf, allowedOf, shapeOf, shapeAt, arityOf};
 ghost use Rattle.predicate.specs.Tree.{firstAt, Sound};
 ghost use Rattle.predicate.specs.Standing.{Below, standsAt, goodAt};
@@ -114,7 +115,7 @@ fn allowed(text: &[u8], class: Class, x: u64, y: u64) -> bool
         Class::Boolean => if x <= 1 { y == 0 } else { false },
         Class::Number => y == 0,
         Class::Text => spans(text, x, y),
-        Class::Column => if x <= kind::COLUMN_MAX { y == 0 } else { false },
+        Class::Column => if x <= COLUMN_MAX { y == 0 } else { false },
         Class::And => true,
         Class::Or => true,
         Class::Not => y == 0,
@@ -147,7 +148,7 @@ fn shape_of(class: Class, row: Row) -> Shape
 
 // What row r is to a splitter.
 pub fn shape_at(rows: &[u64], r: usize) -> Shape
-    requires { ⌜ r < countOf (now rows) ⌝ }
+    requires { ⌜ r < rowCount (now rows) ⌝ }
     ensures { λ s. ⌜ s ≡ shapeAt (now (rows .entry)) r ⌝ }
 {
     let row = rows::row_at(rows, r);
@@ -233,7 +234,7 @@ pub enum Checked {
 
 // Each row in turn, up to the first that is not good; then that there is one root.
 fn check_rows(text: &[u8], rows: &[u64]) -> Checked
-    ensures { λ v. ⌜ v ≡ checkedOf (countOf (now (rows .entry))) (readFrom (now (text .entry)) (now (rows .entry)) (countOf (now (rows .entry))) 0 []) ⌝ }
+    ensures { λ v. ⌜ v ≡ checkedOf (rowCount (now (rows .entry))) (readFrom (now (text .entry)) (now (rows .entry)) (rowCount (now (rows .entry))) 0 []) ⌝ }
 {
     let whole = rows::count(rows);
     let mut r = 0;
@@ -257,7 +258,7 @@ fn check_rows(text: &[u8], rows: &[u64]) -> Checked
 
 // Are the rows a predicate over the text?
 pub fn check(text: &[u8], rows: &[u64]) -> Checked
-    ensures { λ v. ⌜ v ≡ checkedOf (countOf (now (rows .entry))) (readRows (now (text .entry)) (now (rows .entry))) ⌝ }
+    ensures { λ v. ⌜ v ≡ checkedOf (rowCount (now (rows .entry))) (readRows (now (text .entry)) (now (rows .entry))) ⌝ }
 {
     let whole = rows::count(rows);
     if TEXT_MAX < text.len() {

@@ -8,33 +8,33 @@
 //
 // A call that stays a call in the compiled code is lent `&*text` and `&*tokens`: so the compiler keeps a slice's two halves apart, and reads take half
 // the time.
-use grammar::leaf::Single;
-use grammar::leaf::alone;
-use grammar::leaf::column;
-use grammar::leaf::numeral;
-use grammar::opening::closed;
-use grammar::opening::minimum;
-use grammar::opening::opened;
-use grammar::postfix::any_postfixes;
-use grammar::postfix::postfix_at;
-use grammar::postfix::postfixes;
-use grammar::step::Cursor;
-use grammar::step::Step;
-use grammar::step::again;
-use grammar::step::leaf;
-use grammar::step::need;
-use grammar::step::put;
-use operators::kind as row;
+use grammar::Cursor;
+use grammar::Single;
+use grammar::Step;
 use operators::operator;
 use operators::operator::Start;
+use refusals::Refusal;
 use rows::Row;
+use steps::leaf::alone;
+use steps::leaf::column;
+use steps::leaf::numeral;
+use steps::opening::closed;
+use steps::opening::minimum;
+use steps::opening::opened;
+use steps::postfix::any_postfixes;
+use steps::postfix::postfix_at;
+use steps::postfix::postfixes;
+use steps::step::again;
+use steps::step::leaf;
+use steps::step::need;
+use steps::step::put;
+use syntax::kind as row;
 use tokens::kind;
-use tokens::refusal::Refusal;
 use tokens::table::kind_at;
 ghost use mathlib.Core.Path.{_≡_};
 ghost use Prim.Native.Nat.{_≤_, _<_, _+_, _-_, _^_};
 ghost use Rattle.tokens.specs.Kind.{openParen};
-ghost use Rattle.tokens.specs.Token.{count, kindAt};
+ghost use Rattle.tokens.specs.Token.{tokenCount, kindAt};
 ghost use Rattle.operators.specs.Operator.{infixOf, binds, startOf};
 ghost use Rattle.grammar.specs.Memory.{Gives, expression as expressionOf, tail as tailOf, closings as closingsOf, atom as atomOf, named as namedOf, arguments as argumentsOf, argument as argumentOf, infixes as infixesOf, infixed as infixedOf, fuel};
 
@@ -47,7 +47,7 @@ pub fn expression(
     levels: usize,
     min: u32,
 ) -> Step
-    requires { ⌜ c .at ≤ count (now tokens) ⌝ }
+    requires { ⌜ c .at ≤ tokenCount (now tokens) ⌝ }
     ensures { λ r. ⌜ Gives (expressionOf (now (text .entry)) (now (tokens .entry)) levels min c (now (rows .entry))) r (now (rows .exit)) ⌝ }
 {
     let from = c.at;
@@ -68,7 +68,7 @@ pub fn expression(
 
 // An atom. No parenthesis opens here: that is an opening.
 fn atom(text: &[u8], tokens: &[u32], rows: &mut [u64], c: Cursor, rest: usize) -> Step
-    requires { ⌜ (c .at ≤ count (now tokens)) × (kindAt (now tokens) (c .at) ≡ openParen → ⊥) ⌝ }
+    requires { ⌜ (c .at ≤ tokenCount (now tokens)) × (kindAt (now tokens) (c .at) ≡ openParen → ⊥) ⌝ }
     ensures { λ r. ⌜ Gives (atomOf (now (text .entry)) (now (tokens .entry)) (expressionOf (now (text .entry)) (now (tokens .entry)) rest) (startOf (kindAt (now (tokens .entry)) (c .at))) c (now (rows .entry))) r (now (rows .exit)) ⌝ }
 {
     let at = c.at;
@@ -94,7 +94,7 @@ fn closings(
     end: usize,
     min: u32,
 ) -> Step
-    requires { ⌜ (start .at ≤ count (now tokens)) × (0 < start .rows) × (from ≤ end) × (innermost + (end - from) < 2 ^ 64) ⌝ }
+    requires { ⌜ (start .at ≤ tokenCount (now tokens)) × (0 < start .rows) × (from ≤ end) × (innermost + (end - from) < 2 ^ 64) ⌝ }
     ensures { λ r. ⌜ Gives (closingsOf (now (text .entry)) (now (tokens .entry)) min from innermost (end - from) start (now (rows .entry))) r (now (rows .exit)) ⌝ }
 {
     let mut c = start;
@@ -121,7 +121,7 @@ fn closings(
 // What follows an operand: postfix operators, infix operators, and postfix operators once more. Where no operator stands, one look is enough. The last
 // round is `any_postfixes` written out: called twice, that would be a call in the compiled code too.
 fn tail(text: &[u8], tokens: &[u32], rows: &mut [u64], c: Cursor, rest: usize, min: u32) -> Step
-    requires { ⌜ (c .at ≤ count (now tokens)) × (0 < c .rows) ⌝ }
+    requires { ⌜ (c .at ≤ tokenCount (now tokens)) × (0 < c .rows) ⌝ }
     ensures { λ r. ⌜ Gives (tailOf (now (text .entry)) (now (tokens .entry)) (expressionOf (now (text .entry)) (now (tokens .entry)) rest) min c (now (rows .entry))) r (now (rows .exit)) ⌝ }
 {
     let here = c.at;
@@ -146,7 +146,7 @@ fn tail(text: &[u8], tokens: &[u32], rows: &mut [u64], c: Cursor, rest: usize, m
 
 // A name: a function, where a parenthesis opens after it, else a column.
 fn named(text: &[u8], tokens: &[u32], rows: &mut [u64], c: Cursor, rest: usize) -> Step
-    requires { ⌜ c .at < count (now tokens) ⌝ }
+    requires { ⌜ c .at < tokenCount (now tokens) ⌝ }
     ensures { λ r. ⌜ Gives (namedOf (now (text .entry)) (now (tokens .entry)) (expressionOf (now (text .entry)) (now (tokens .entry)) rest) c (now (rows .entry))) r (now (rows .exit)) ⌝ }
 {
     let at = c.at;
@@ -168,7 +168,7 @@ fn arguments(
     rest: usize,
     name: usize,
 ) -> Step
-    requires { ⌜ start .at ≤ count (now tokens) ⌝ }
+    requires { ⌜ start .at ≤ tokenCount (now tokens) ⌝ }
     ensures { λ r. ⌜ Gives (argumentsOf (now (text .entry)) (now (tokens .entry)) (expressionOf (now (text .entry)) (now (tokens .entry)) rest) name 0 (fuel (now (tokens .entry))) start (now (rows .entry))) r (now (rows .exit)) ⌝ }
 {
     let mut c = start;
@@ -202,13 +202,13 @@ fn arguments(
 
 // An argument, after a comma if it is not the first.
 fn argument(text: &[u8], tokens: &[u32], rows: &mut [u64], c: Cursor, rest: usize, n: usize) -> Step
-    requires { ⌜ c .at ≤ count (now tokens) ⌝ }
+    requires { ⌜ c .at ≤ tokenCount (now tokens) ⌝ }
     ensures { λ r. ⌜ Gives (argumentOf (now (text .entry)) (now (tokens .entry)) (expressionOf (now (text .entry)) (now (tokens .entry)) rest) n c (now (rows .entry))) r (now (rows .exit)) ⌝ }
 {
     if n == 0 {
         return again(expression(&*text, &*tokens, rows, c, rest, 0));
     }
-    let s = need(tokens, c, kind::COMMA, Refusal::WrongToken);
+    let s = need(tokens, c, kind::COMMA, Refusal::NeedComma);
     let Step::Read(d) = s else {
         return s;
     };
@@ -224,7 +224,7 @@ fn infixes(
     rest: usize,
     min: u32,
 ) -> Step
-    requires { ⌜ (start .at ≤ count (now tokens)) × (0 < start .rows) ⌝ }
+    requires { ⌜ (start .at ≤ tokenCount (now tokens)) × (0 < start .rows) ⌝ }
     ensures { λ r. ⌜ Gives (infixesOf (now (text .entry)) (now (tokens .entry)) (expressionOf (now (text .entry)) (now (tokens .entry)) rest) min start (now (rows .entry))) r (now (rows .exit)) ⌝ }
 {
     let mut c = start;
@@ -250,7 +250,7 @@ fn infix_at(tokens: &[u32], at: usize, min: u32) -> bool
 
 // An infix operator, after its left side, with its right side.
 fn infixed(text: &[u8], tokens: &[u32], rows: &mut [u64], c: Cursor, rest: usize) -> Step
-    requires { ⌜ (c .at < count (now tokens)) × (0 < c .rows) ⌝ }
+    requires { ⌜ (c .at < tokenCount (now tokens)) × (0 < c .rows) ⌝ }
     ensures { λ r. ⌜ Gives (infixedOf (now (text .entry)) (now (tokens .entry)) (expressionOf (now (text .entry)) (now (tokens .entry)) rest) c (now (rows .entry))) r (now (rows .exit)) ⌝ }
 {
     let at = c.at;
@@ -283,7 +283,7 @@ fn infixed(text: &[u8], tokens: &[u32], rows: &mut [u64], c: Cursor, rest: usize
 
 // A right side, at the minimum `min`. Most often it is one token, and then takes no call.
 fn right(text: &[u8], tokens: &[u32], rows: &mut [u64], c: Cursor, levels: usize, min: u32) -> Step
-    requires { ⌜ c .at ≤ count (now tokens) ⌝ }
+    requires { ⌜ c .at ≤ tokenCount (now tokens) ⌝ }
     ensures { λ r. ⌜ Gives (expressionOf (now (text .entry)) (now (tokens .entry)) levels min c (now (rows .entry))) r (now (rows .exit)) ⌝ }
 {
     let at = c.at;

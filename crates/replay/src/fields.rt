@@ -1,6 +1,6 @@
 // The stored lists as numbers: a line is fields with one space between them, and a field is a decimal number or one letter.
-use form::numbers::field;
-use form::numbers::keep;
+use lines::numbers::field;
+use lines::numbers::keep;
 ghost use mathlib.Core.Path.{_≡_};
 ghost use Prim.Native.Nat.{_+_, _≤_, _<_, _^_};
 ghost use lib.ListN.{length};

@@ -3,11 +3,11 @@
 use crate::fields::bytes;
 use crate::fields::count_at;
 use crate::fields::numbers;
-use form::numbers::field;
+use lines::numbers::field;
 use lookup::Found;
 use lookup::Looked;
+use refusals::Refusal;
 use rows::WIDTH;
-use tokens::refusal::Refusal;
 use values::row_of;
 
 const TEXT: usize = 1024;

@@ -1,9 +1,9 @@
 // Replays the stored answers of the original (the lists in data/): says how many cases each list has, how many of them the library answers otherwise, and
 // the line of the first that it does.
 use fields::fields_of;
-use form::numbers::field;
-use form::scan::until;
 use libc::STDOUT_FILENO;
+use lines::numbers::field;
+use lines::scan::until;
 
 mod fields;
 mod looking;

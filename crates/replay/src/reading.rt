@@ -3,11 +3,10 @@ use crate::fields::all;
 use crate::fields::bytes;
 use crate::fields::count_at;
 use crate::fields::same;
-use form::numbers::field;
-use form::numbers::words;
+use lines::numbers::field;
+use lines::numbers::words;
+use parser::Parsed;
 use rows::WIDTH;
-use syntax::Parsed;
-use tokens::refusal;
 ghost use lib.ListN.{length};
 
 const TEXT: usize = 1024;
@@ -55,7 +54,7 @@ fn answer_is(answer: Parsed, rows: &[u64], f: &[u64], at: usize) -> bool {
             if letter != b'R' as u64 {
                 return false;
             }
-            if first != refusal::number_of(why) as u64 {
+            if first != refusals::number_of(why) as u64 {
                 return false;
             }
             if second != place as u64 {
@@ -72,7 +71,7 @@ fn parse_lent(f: &[u64], text: &mut [u8], tokens: &mut [u32], rows: &mut [u64]) 
     let tail = text.len();
     words(f, tail + 3, tokens);
     let at = tail + 3 + tokens.len();
-    let answer = syntax::parse(text, tokens, rows);
+    let answer = parser::parse(text, tokens, rows);
     answer_is(answer, rows, f, at)
 }
 

@@ -3,9 +3,9 @@
 use crate::fields::bytes;
 use crate::fields::count_at;
 use crate::fields::numbers;
-use clauses::Listed;
-use form::numbers::field;
+use lines::numbers::field;
 use rows::WIDTH;
+use splitter::Listed;
 
 const TEXT: usize = 1024;
 
@@ -135,7 +135,7 @@ fn split_lent(
     let tail = text.len();
     numbers(f, tail + 3, rows);
     let at = tail + 3 + rows.len();
-    let answer = clauses::split(text, rows, literals, ends);
+    let answer = splitter::split(text, rows, literals, ends);
     match answer {
         Listed::Clauses(c, m) => lists_are(literals, ends, c, m, f, at),
         Listed::Refused(_, _) => false,

@@ -9,8 +9,8 @@ use native.Mathlib.Nat.{add-zero, div-mul-le-self}
 use native.Mathlib.Omega.{arith}
 use lib.ListN.{length, getD, set, take, drop, length-set}
 use lib.Seq.{sets, length-sets, sets-eq, getD-set-same, getD-set-other}
-use Rattle.tokens.specs.Limits.{rowsMax}
-use Rattle.rows.specs.Layout.{width, numbers, count, capacity, rowAt}
+use Rattle.limits.specs.Limits.{rowsMax}
+use Rattle.rows.specs.Layout.{width, numbers, rowCount, capacity, rowAt}
 use Rattle.rows.specs.declared.Row.{Row}
 
 -- a row has `width` numbers
@@ -18,18 +18,18 @@ pub length-numbers : (r : Row) → length (numbers r) ≡ width
 length-numbers r = refl
 
 -- the rows of a table lie within it
-pub within : (t : List ℕ) {k : ℕ} → k ≤ count t → k * width ≤ length t
+pub within : (t : List ℕ) {k : ℕ} → k ≤ rowCount t → k * width ≤ length t
 within t le = omega (arith, div-mul-le-self (length t) width)
 
 -- what is stored leaves the number of rows as it was
-pub count-sets : (t : List ℕ) (i : ℕ) (vs : List ℕ) → count (sets t i vs) ≡ count t
+pub count-sets : (t : List ℕ) (i : ℕ) (vs : List ℕ) → rowCount (sets t i vs) ≡ rowCount t
 count-sets t i vs = ap (λ (n : ℕ). n / width) (length-sets t i vs)
 
 pub capacity-sets : (t : List ℕ) (i : ℕ) (vs : List ℕ) → capacity (sets t i vs) ≡ capacity t
 capacity-sets t i vs = ap (λ (n : ℕ). min n rowsMax) (count-sets t i vs)
 
 -- no more rows than there are, and no more than the maximum
-pub capacity-count : (t : List ℕ) → capacity t ≤ count t
+pub capacity-count : (t : List ℕ) → capacity t ≤ rowCount t
 capacity-count t = omega arith
 
 pub capacity-max : (t : List ℕ) → capacity t ≤ rowsMax
@@ -47,7 +47,7 @@ pub follows : (t : List ℕ) (n k : ℕ) (a b : List ℕ) → k * width ≡ n * 
 follows t n k a b e = ap (λ (j : ℕ). sets (sets t (n * width) a) j b) e ∙ sets-append t (n * width) a b
 
 -- k rows from row n on: what is before and after them is as it was
-pub laid-out : (t rows : List ℕ) (n k : ℕ) → length rows ≡ k * width → n + k ≤ count t → sets t (n * width) rows ≡ take (n * width) t ++ rows ++ drop ((n + k) * width) t
+pub laid-out : (t rows : List ℕ) (n k : ℕ) → length rows ≡ k * width → n + k ≤ rowCount t → sets t (n * width) rows ≡ take (n * width) t ++ rows ++ drop ((n + k) * width) t
 laid-out t rows n k many le =
     let e : n * width + length rows ≡ (n + k) * width = omega arith in
     sets-eq rows t (n * width) (omega (arith, within t le)) ∙ ap (λ (j : ℕ). take (n * width) t ++ rows ++ drop j t) e
@@ -76,7 +76,7 @@ pub same-row : {r s : Row} → r .kind ≡ s .kind → r .x ≡ s .x → r .y �
 same-row k x y = rw (k, x, y)
 
 -- a row written is read back
-pub written : (t : List ℕ) (n : ℕ) (r : Row) → n < count t → rowAt (sets t (n * width) (numbers r)) n ≡ r
+pub written : (t : List ℕ) (n : ℕ) (r : Row) → n < rowCount t → rowAt (sets t (n * width) (numbers r)) n ≡ r
 written t n r lt = same-row (ap (λ (j : ℕ). getD (sets t (n * width) (numbers r)) j 0) (sym (add-zero (n * width))) ∙ at 0 (omega arith)) (at 1 (omega arith)) (at 2 (omega arith))
   where
     at : (k : ℕ) → k < width → getD (sets t (n * width) (numbers r)) (n * width + k) 0 ≡ getD (numbers r) k 0

@@ -7,7 +7,7 @@ use Prim.Native.Nat.{ℕ, suc, _+_, _*_, _-_, _≤_, _<_}
 use native.Mathlib.Omega.{arith}
 use lib.ListN.{length, take, drop, getD}
 use lib.Seq.{slice, slice-cons, slice-empty, take-add, take-all, drop-append-le, drop-at, length-take-le}
-use Rattle.rows.specs.Layout.{width, numbers, count, rowAt}
+use Rattle.rows.specs.Layout.{width, numbers, rowCount, rowAt}
 use Rattle.rows.proofs.Laws.{within}
 
 -- rows f up to, and not with, row t
@@ -22,13 +22,13 @@ slices-join l f m t a b c =
     ap (λ (z : List ℕ). slice f m l ++ z) (ap (drop m) all ∙ drop-at (take m l) (take (t - m) (drop m l)) m long)
     ∙ sym (ap (drop f) all ∙ drop-append-le f (take m l) (take (t - m) (drop m l)) (omega arith))
 
-pub parts-join : (l : List ℕ) {f m t : ℕ} → f ≤ m → m ≤ t → t ≤ count l → partOf l f m ++ partOf l m t ≡ partOf l f t
+pub parts-join : (l : List ℕ) {f m t : ℕ} → f ≤ m → m ≤ t → t ≤ rowCount l → partOf l f m ++ partOf l m t ≡ partOf l f t
 parts-join l {f} {m} {t} a b c = slices-join l (f * width) (m * width) (t * width) (omega arith) (omega arith) (within l c)
 
 pub part-none : (l : List ℕ) (r : ℕ) → partOf l r r ≡ []
 part-none l r = slice-empty (r * width) l
 
-pub row-part : (l : List ℕ) (r : ℕ) → r < count l → numbers (rowAt l r) ≡ partOf l r (r + 1)
+pub row-part : (l : List ℕ) (r : ℕ) → r < rowCount l → numbers (rowAt l r) ≡ partOf l r (r + 1)
 row-part l r h =
     let k : (r + 1) * width ≤ length l = within l (omega arith) in
     let e : suc (suc (suc (r * width))) ≡ (r + 1) * width = omega arith in
@@ -43,5 +43,5 @@ row-part l r h =
     ∙ ap₂ (λ (n : ℕ) (z : List ℕ). getD l n 0 ∷ z) two
     (ap (λ (n : ℕ). slice n ((r + 1) * width) l) e ∙ slice-empty ((r + 1) * width) l))))
 
-pub part-all : (l : List ℕ) → length l ≡ count l * width → partOf l 0 (count l) ≡ l
-part-all l e = take-all (count l * width) l (omega arith)
+pub part-all : (l : List ℕ) → length l ≡ rowCount l * width → partOf l 0 (rowCount l) ≡ l
+part-all l e = take-all (rowCount l * width) l (omega arith)

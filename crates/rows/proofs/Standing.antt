@@ -6,7 +6,7 @@ use mathlib.Core.Bool.{Bool, true, false}
 use mathlib.Core.List.{List, _∷_}
 use Prim.Native.Nat.{ℕ, _+_}
 use lib.Dec.{eqb}
-use Rattle.rows.specs.Whole.{Subtree, at, any, off, found, ends, before}
+use Rattle.rows.specs.PostOrder.{Subtree, at, any, off, found, ends, before}
 
 module _ {T : Type 0} (x next : ℕ) (trees : List T) (w : Subtree T) (left : List (Subtree T)) where
   pub took : eqb (x + 1) next ≡ true → before (at x) (found next trees (w ∷ left)) ≡ found (w .first) (w .tree ∷ trees) left

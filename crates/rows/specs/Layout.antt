@@ -4,7 +4,7 @@ use mathlib.Core.Bool.{Bool}
 use mathlib.Core.List.{List, [], _∷_}
 use lib.ListN.{length, getD}
 use lib.Dec.{eqb}
-use Rattle.tokens.specs.Limits.{rowsMax}
+use Rattle.limits.specs.Limits.{rowsMax}
 use Rattle.rows.specs.declared.Row.{Row}
 
 -- numbers per row
@@ -16,8 +16,8 @@ abbrev pub numbers : Row → List ℕ
 numbers r = r .kind ∷ r .x ∷ r .y ∷ []
 
 -- how many whole rows a table has
-abbrev pub count : List ℕ → ℕ
-count t = length t / width
+abbrev pub rowCount : List ℕ → ℕ
+rowCount t = length t / width
 
 -- a table has no number that is in no whole row
 abbrev pub onlyWhole : List ℕ → Bool
@@ -25,7 +25,7 @@ onlyWhole t = eqb (length t % width) 0
 
 -- how many rows a table takes (FORMAT §1)
 abbrev pub capacity : List ℕ → ℕ
-capacity t = min (count t) rowsMax
+capacity t = min (rowCount t) rowsMax
 
 -- row n
 abbrev pub rowAt : List ℕ → ℕ → Row

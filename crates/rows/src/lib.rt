@@ -1,11 +1,11 @@
 // How a row of either family lies in its table: how many numbers it has, and the one function that reads a row and the one that writes one.
 // What the numbers of a row mean is each family's own.
-use tokens::limits::ROWS_MAX;
+use limits::ROWS_MAX;
 ghost use mathlib.Core.Path.{_≡_};
 ghost use Prim.Native.Nat.{_*_, _<_};
 ghost use lib.ListN.{length, replicate};
 ghost use lib.Seq.{sets};
-ghost use Rattle.rows.specs.Layout.{width, numbers, count as countOf, onlyWhole, capacity as capacityOf, rowAt};
+ghost use Rattle.rows.specs.Layout.{width, numbers, rowCount, onlyWhole, capacity as capacityOf, rowAt};
 
 // Numbers per row.
 pub const WIDTH: usize = 3;
@@ -19,7 +19,7 @@ pub struct Row {
 
 // How many whole rows a table has.
 pub fn count(rows: &[u64]) -> usize
-    ensures { λ r. ⌜ r ≡ countOf (now (rows .entry)) ⌝ }
+    ensures { λ r. ⌜ r ≡ rowCount (now (rows .entry)) ⌝ }
 {
     rows.len() / WIDTH
 }
@@ -41,7 +41,7 @@ pub fn capacity(rows: &[u64]) -> usize
 
 // Row n.
 pub fn row_at(rows: &[u64], n: usize) -> Row
-    requires { ⌜ n < countOf (now rows) ⌝ }
+    requires { ⌜ n < rowCount (now rows) ⌝ }
     ensures { λ r. ⌜ r ≡ rowAt (now (rows .entry)) n ⌝ }
 {
     let at = n * WIDTH;
@@ -54,7 +54,7 @@ pub fn row_at(rows: &[u64], n: usize) -> Row
 
 // Row n is set to `row`, and nothing else changes.
 pub fn write_row(rows: &mut [u64], n: usize, row: Row)
-    requires { ⌜ n < countOf (now rows) ⌝ }
+    requires { ⌜ n < rowCount (now rows) ⌝ }
     ensures { λ _. ⌜ now (rows .exit) ≡ sets (now (rows .entry)) (n * width) (numbers row) ⌝ }
 {
     let at = n * WIDTH;

@@ -8,23 +8,23 @@ use drawing::out::put;
 use drawing::out::quoted;
 use drawing::tree::Family;
 use drawing::tree::draw;
-use form::numbers::Taken;
-use form::numbers::numbers_of;
-use form::numbers::words;
-use form::scan::find;
-use form::scan::last;
-use form::scan::until;
-use form::scan::word_at;
-use form::scan::word_end;
-use form::scan::word_start;
-use form::words::Doubt;
-use form::words::first_doubt;
-use form::words::tokens_of;
+use limits::ROWS_MAX;
+use lines::numbers::Taken;
+use lines::numbers::numbers_of;
+use lines::numbers::words;
+use lines::scan::find;
+use lines::scan::last;
+use lines::scan::until;
+use lines::scan::word_at;
+use lines::scan::word_end;
+use lines::scan::word_start;
+use lines::words::Doubt;
+use lines::words::first_doubt;
+use lines::words::tokens_of;
+use parser::Parsed;
 use predicate::Checked;
+use refusals::Refusal;
 use rows::WIDTH;
-use syntax::Parsed;
-use tokens::limits::ROWS_MAX;
-use tokens::refusal::Refusal;
 ghost use Prim.Native.Nat.{_≤_};
 ghost use lib.ListN.{length};
 
@@ -107,7 +107,7 @@ fn parse_tokens(
 )
     requires { ⌜ from ≤ length (now line) ⌝ }
 {
-    match syntax::parse(text, tokens, rows) {
+    match parser::parse(text, tokens, rows) {
         Parsed::Rows(n) => drawn(Family::Syntax, text, tokens, rows, n),
         Parsed::Refused(why, place) => {
             let word = word_of(place, by_numbers);

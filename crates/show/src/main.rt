@@ -4,10 +4,10 @@ use cases::case;
 use cases::wrong;
 use drawing::out::put;
 use drawing::out::written;
-use form::input::Unread;
-use form::input::read_line;
-use form::scan::byte;
-use form::scan::word_start;
+use lines::input::Unread;
+use lines::input::read_line;
+use lines::scan::byte;
+use lines::scan::word_start;
 
 mod cases;
 

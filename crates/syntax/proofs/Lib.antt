@@ -1,11 +1,3 @@
--- Laws of the definitions, that the functions' proofs cite, and the theorems about reading.
-pub mod Laid
-pub mod Trees
-pub mod Promised
-pub mod Onward
-pub mod Fuel
-pub mod Exact
-pub mod Room
-pub mod Unlimited
-pub mod Standing
-pub mod Kinded
+-- Laws of syntax rows: how long they are, and that a tree's rows are read back as that tree.
+pub mod Lengths
+pub mod ReadBack

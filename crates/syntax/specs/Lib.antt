@@ -1,5 +1,4 @@
--- What the contracts of `syntax` say, as definitions. Promise: what `parse` answers, by the rules of `grammar`. Inner: what its parts promise each
--- other. Whole: rows read back.
-pub mod Promise
-pub mod Inner
-pub mod Whole
+-- Syntax rows: Kind has their kinds, Tree the trees and the rows of a tree, Read the rows read back as a tree.
+pub mod Kind
+pub mod Tree
+pub mod Read

@@ -8,64 +8,64 @@ use native.Mathlib.Nat.{lt-of-not-le, add-sub-cancel-left}
 use native.Mathlib.Omega.{arith}
 use borrow.Author.Tests.{lt-ltb, le-ltb, leb-true, eq-eqb, ne-eqb}
 use lib.ListN.{length, getD, take, drop}
-use Rattle.tokens.specs.Limits.{textMax, tokensMax}
-use Rattle.tokens.specs.Token.{count, tokenAt, kindAt, known, fits, checkFrom, checkTable, spanOf, spanAt, spelled}
-use Rattle.tokens.specs.declared.refusal.Refusal.the-variants.{TooLong, BadTable}
+use Rattle.limits.specs.Limits.{textMax, tokensMax}
+use Rattle.tokens.specs.Token.{tokenCount, tokenAt, kindAt, known, fits, checkFrom, checkTable, spanOf, spanAt, spelled}
+use Rattle.refusals.specs.declared.Refusal.the-variants.{TooLong, BadTable}
 use Rattle.tokens.specs.declared.table.Token.{Token}
 use Rattle.tokens.specs.declared.table.Span.{Span}
 use Rattle.tokens.specs.declared.table.Checked.the-variants.{Good, Refused}
 
 module _ (ts : List ℕ) (n : ℕ) where
-  pub there : n < count ts → tokenAt ts n ≡ record { kind = getD ts (n * 3) 0; start = getD ts (n * 3 + 1) 0; length = getD ts (n * 3 + 2) 0 }
+  pub there : n < tokenCount ts → tokenAt ts n ≡ record { kind = getD ts (n * 3) 0; start = getD ts (n * 3 + 1) 0; length = getD ts (n * 3 + 2) 0 }
   unfolding tokenAt
-  there lt = rw (lt-ltb n (count ts) lt, tokenAt)
+  there lt = rw (lt-ltb n (tokenCount ts) lt, tokenAt)
 
-  pub missing : count ts ≤ n → tokenAt ts n ≡ record { kind = 0; start = 0; length = 0 }
+  pub missing : tokenCount ts ≤ n → tokenAt ts n ≡ record { kind = 0; start = 0; length = 0 }
   unfolding tokenAt
-  missing le = rw (le-ltb n (count ts) le, tokenAt)
+  missing le = rw (le-ltb n (tokenCount ts) le, tokenAt)
 
-  pub kind-there : n < count ts → kindAt ts n ≡ getD ts (n * 3) 0
+  pub kind-there : n < tokenCount ts → kindAt ts n ≡ getD ts (n * 3) 0
   unfolding kindAt
   kind-there lt = ap (λ (t : Token). t .kind) (there lt)
 
-  pub kind-missing : count ts ≤ n → kindAt ts n ≡ 0
+  pub kind-missing : tokenCount ts ≤ n → kindAt ts n ≡ 0
   unfolding kindAt
   kind-missing le = ap (λ (t : Token). t .kind) (missing le)
 
   -- a token whose kind is not 0 is one of the tokens
-  pub kind-in : (kindAt ts n ≡ 0 → ⊥) → n < count ts
+  pub kind-in : (kindAt ts n ≡ 0 → ⊥) → n < tokenCount ts
   kind-in some = lt-of-not-le (λ le. some (kind-missing le))
 
 -- the check has come to token n
 pub record Checking (text ts : List ℕ) (n : ℕ) : Type 0 where
-  pub within : n ≤ count ts
-  pub same : checkFrom text ts n (count ts - n) ≡ checkFrom text ts 0 (count ts)
+  pub within : n ≤ tokenCount ts
+  pub same : checkFrom text ts n (tokenCount ts - n) ≡ checkFrom text ts 0 (tokenCount ts)
 
 pub check-begins : (text ts : List ℕ) → Checking text ts 0
-check-begins text ts = record { within = omega arith; same = ap (checkFrom text ts 0) (let z : count ts - 0 ≡ count ts = omega arith in z) }
+check-begins text ts = record { within = omega arith; same = ap (checkFrom text ts 0) (let z : tokenCount ts - 0 ≡ tokenCount ts = omega arith in z) }
 
 module _ (text ts : List ℕ) (n : ℕ) (at : Checking text ts n) where
-  one-left : n < count ts → count ts - n ≡ suc (count ts - (n + 1))
+  one-left : n < tokenCount ts → tokenCount ts - n ≡ suc (tokenCount ts - (n + 1))
   one-left lt = omega arith
 
-  pub check-on : n < count ts → (known (kindAt ts n) && fits text (tokenAt ts n)) ≡ true → Checking text ts (n + 1)
+  pub check-on : n < tokenCount ts → (known (kindAt ts n) && fits text (tokenAt ts n)) ≡ true → Checking text ts (n + 1)
   unfolding checkFrom
   check-on lt e =
-      let turn : checkFrom text ts n (count ts - n) ≡ checkFrom text ts (n + 1) (count ts - (n + 1)) = rw (one-left lt, e, checkFrom) in
+      let turn : checkFrom text ts n (tokenCount ts - n) ≡ checkFrom text ts (n + 1) (tokenCount ts - (n + 1)) = rw (one-left lt, e, checkFrom) in
       record { within = omega arith; same = sym turn ∙ at .same }
 
-  pub check-off : n < count ts → (known (kindAt ts n) && fits text (tokenAt ts n)) ≡ false → Refused BadTable n ≡ checkFrom text ts 0 (count ts)
+  pub check-off : n < tokenCount ts → (known (kindAt ts n) && fits text (tokenAt ts n)) ≡ false → Refused BadTable n ≡ checkFrom text ts 0 (tokenCount ts)
   unfolding checkFrom
   check-off lt e =
-      let turn : checkFrom text ts n (count ts - n) ≡ Refused BadTable n = rw (one-left lt, e, checkFrom) in
+      let turn : checkFrom text ts n (tokenCount ts - n) ≡ Refused BadTable n = rw (one-left lt, e, checkFrom) in
       sym turn ∙ at .same
 
-  pub check-ends : count ts ≤ n → Good (count ts) ≡ checkFrom text ts 0 (count ts)
+  pub check-ends : tokenCount ts ≤ n → Good (tokenCount ts) ≡ checkFrom text ts 0 (tokenCount ts)
   unfolding checkFrom
   check-ends le =
-      let none : count ts - n ≡ 0 = omega arith in
-      let last : n ≡ count ts = omega (arith, at .within) in
-      let end : checkFrom text ts n (count ts - n) ≡ Good n = rw none in
+      let none : tokenCount ts - n ≡ 0 = omega arith in
+      let last : n ≡ tokenCount ts = omega (arith, at .within) in
+      let end : checkFrom text ts n (tokenCount ts - n) ≡ Good n = rw none in
       ap Good (sym last) ∙ sym end ∙ at .same
 
 -- the order of the check
@@ -74,17 +74,17 @@ module _ (text ts : List ℕ) where
   unfolding checkTable
   long-text lt = rw (lt-ltb textMax (length text) lt, checkTable)
 
-  pub long-table : length text ≤ textMax → tokensMax < count ts → checkTable text ts ≡ Refused TooLong 0
+  pub long-table : length text ≤ textMax → tokensMax < tokenCount ts → checkTable text ts ≡ Refused TooLong 0
   unfolding checkTable
-  long-table le lt = rw (le-ltb textMax (length text) le, lt-ltb tokensMax (count ts) lt, checkTable)
+  long-table le lt = rw (le-ltb textMax (length text) le, lt-ltb tokensMax (tokenCount ts) lt, checkTable)
 
-  pub ragged : length text ≤ textMax → count ts ≤ tokensMax → (length ts % 3 ≡ 0 → ⊥) → checkTable text ts ≡ Refused BadTable (count ts)
+  pub ragged : length text ≤ textMax → tokenCount ts ≤ tokensMax → (length ts % 3 ≡ 0 → ⊥) → checkTable text ts ≡ Refused BadTable (tokenCount ts)
   unfolding checkTable
-  ragged le le′ ne = rw (le-ltb textMax (length text) le, le-ltb tokensMax (count ts) le′, ne-eqb (length ts % 3) 0 ne, checkTable)
+  ragged le le′ ne = rw (le-ltb textMax (length text) le, le-ltb tokensMax (tokenCount ts) le′, ne-eqb (length ts % 3) 0 ne, checkTable)
 
-  pub in-turn : length text ≤ textMax → count ts ≤ tokensMax → length ts % 3 ≡ 0 → checkTable text ts ≡ checkFrom text ts 0 (count ts)
+  pub in-turn : length text ≤ textMax → tokenCount ts ≤ tokensMax → length ts % 3 ≡ 0 → checkTable text ts ≡ checkFrom text ts 0 (tokenCount ts)
   unfolding checkTable
-  in-turn le le′ e = rw (le-ltb textMax (length text) le, le-ltb tokensMax (count ts) le′, eq-eqb (length ts % 3) 0 e, checkTable)
+  in-turn le le′ e = rw (le-ltb textMax (length text) le, le-ltb tokensMax (tokenCount ts) le′, eq-eqb (length ts % 3) 0 e, checkTable)
 
 -- a part of the text
 abbrev In : List ℕ → Span → Type 0

@@ -1,5 +1,3 @@
--- What the contracts of `tokens` say, as definitions: read Limits, Kind and Refusal for the numbers, then Token.
-pub mod Limits
+-- What the contracts of `tokens` say, as definitions: read Kind for the numbers, then Token.
 pub mod Kind
-pub mod Refusal
 pub mod Token

@@ -4,22 +4,22 @@ use mathlib.Core.Bool.{Bool, true, false, _&&_, _||_}
 use mathlib.Core.List.{List}
 use lib.ListN.{length, getD, take, drop}
 use lib.Dec.{leb, ltb, eqb}
-use Rattle.tokens.specs.Limits.{textMax, tokensMax}
+use Rattle.limits.specs.Limits.{textMax, tokensMax}
 use Rattle.tokens.specs.Kind as kind
-use Rattle.tokens.specs.declared.refusal.Refusal.the-variants.{TooLong, BadTable}
+use Rattle.refusals.specs.declared.Refusal.the-variants.{TooLong, BadTable}
 use Rattle.tokens.specs.declared.table.Token.{Token}
 use Rattle.tokens.specs.declared.table.Span.{Span}
 use Rattle.tokens.specs.declared.table.Checked.{Checked}
 use Rattle.tokens.specs.declared.table.Checked.the-variants.{Good, Refused}
 
 -- how many whole tokens there are
-abbrev pub count : List ℕ → ℕ
-count ts = length ts / 3
+abbrev pub tokenCount : List ℕ → ℕ
+tokenCount ts = length ts / 3
 
 -- token n; past the last one, kind `none` and an empty span
 unfoldable pub tokenAt : List ℕ → ℕ → Token
 tokenAt ts n =
-    elim (ltb n (count ts)) [
+    elim (ltb n (tokenCount ts)) [
       | true ↦ record { kind = getD ts (n * 3) 0; start = getD ts (n * 3 + 1) 0; length = getD ts (n * 3 + 2) 0 }
       | false ↦ record { kind = kind.none; start = 0; length = 0 }
     ]
@@ -49,12 +49,12 @@ checkFrom text ts n (suc left) =
 -- first token of unknown kind or with a span outside the text
 unfoldable pub checkTable : List ℕ → List ℕ → Checked
 checkTable text ts =
-    elim (ltb textMax (length text) || ltb tokensMax (count ts)) [
+    elim (ltb textMax (length text) || ltb tokensMax (tokenCount ts)) [
       | true ↦ Refused TooLong 0
       | false ↦
           elim (eqb (length ts % 3) 0) [
-            | true ↦ checkFrom text ts 0 (count ts)
-            | false ↦ Refused BadTable (count ts)
+            | true ↦ checkFrom text ts 0 (tokenCount ts)
+            | false ↦ Refused BadTable (tokenCount ts)
           ]
     ]
 

@@ -1,12 +1,12 @@
 // The table of tokens: its check, and the bytes of a token.
 use crate::kind;
-use crate::limits::TEXT_MAX;
-use crate::limits::TOKENS_MAX;
-use crate::refusal::Refusal;
+use limits::TEXT_MAX;
+use limits::TOKENS_MAX;
+use refusals::Refusal;
 ghost use mathlib.Core.Path.{_≡_};
 ghost use mathlib.Core.Bool.{_&&_};
 ghost use Prim.Native.Nat.{_+_};
-ghost use Rattle.tokens.specs.Token.{count as countOf, tokenAt, kindAt, known as knownOf, fits, checkFrom, checkTable, spanAt, spelled as spelledOf};
+ghost use Rattle.tokens.specs.Token.{tokenCount, tokenAt, kindAt, known as knownOf, fits, checkFrom, checkTable, spanAt, spelled as spelledOf};
 
 // A token: its kind, and its span in the text. No token is kind 0 with an empty span.
 pub struct Token {
@@ -29,7 +29,7 @@ pub enum Checked {
 
 // How many whole tokens there are.
 pub fn count(tokens: &[u32]) -> usize
-    ensures { λ r. ⌜ r ≡ countOf (now (tokens .entry)) ⌝ }
+    ensures { λ r. ⌜ r ≡ tokenCount (now (tokens .entry)) ⌝ }
 {
     tokens.len() / 3
 }
@@ -99,7 +99,7 @@ fn token_good(text: &[u8], tokens: &[u32], n: usize) -> bool
 
 // Each token in turn, up to the first that is not good.
 fn check_tokens(text: &[u8], tokens: &[u32]) -> Checked
-    ensures { λ r. ⌜ r ≡ checkFrom (now (text .entry)) (now (tokens .entry)) 0 (countOf (now (tokens .entry))) ⌝ }
+    ensures { λ r. ⌜ r ≡ checkFrom (now (text .entry)) (now (tokens .entry)) 0 (tokenCount (now (tokens .entry))) ⌝ }
 {
     let whole = tokens.len() / 3;
     let mut n = 0;

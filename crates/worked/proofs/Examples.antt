@@ -5,17 +5,17 @@ use Prim.Native.Nat.{ℕ}
 use mathlib.Core.List.{List, map}
 use Rattle.worked.specs.Table.{cases}
 use Rattle.worked.specs.Said as said
-use Rattle.syntax.specs.Promise as promise
+use Rattle.parser.specs.Promise as promise
 use Rattle.operators.specs.Operator as operator
 use Rattle.grammar.specs.Rules as rules
-use Rattle.grammar.specs.Tree as syntax
+use Rattle.syntax.specs.Tree as syntax
 use Rattle.tokens.specs.Token as token
 use Rattle.numbers.specs.Number as number
-use Rattle.rows.specs.Whole as whole
+use Rattle.rows.specs.PostOrder as whole
 use Rattle.predicate.specs.Row as row
 use Rattle.predicate.specs.Tree as tree
 use Rattle.predicate.specs.Read as read
-use Rattle.normal.specs.Clause as clause
+use Rattle.cnf.specs.Clause as clause
 use Rattle.values.specs.Value as value
 use Rattle.columns.specs.Lookup as lookup
 use Rattle.lookup.specs.Answer as answer

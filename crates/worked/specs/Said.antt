@@ -2,14 +2,14 @@
 use Prim.Native.Nat.{ℕ, _+_}
 use mathlib.Core.List.{List, [], _∷_, _++_}
 use mathlib.Core.Bool.{false}
-use Rattle.tokens.specs.Limits.{rowsMax}
-use Rattle.tokens.specs.Refusal.{numberOf}
+use Rattle.limits.specs.Limits.{rowsMax, levelMax}
+use Rattle.refusals.specs.Refusal.{refusalNumber}
 use Rattle.rows.specs.Layout.{numbers}
-use Rattle.grammar.specs.Tree.{rowsOf}
+use Rattle.syntax.specs.Tree.{rowsOf}
 use Rattle.grammar.specs.Rules as rules
-use Rattle.syntax.specs.Promise.{parsing}
+use Rattle.parser.specs.Promise.{parsing}
 use Rattle.predicate.specs.Read.{Reading, one, refused, readRows}
-use Rattle.normal.specs.Clause as clause
+use Rattle.cnf.specs.Clause as clause
 use Rattle.values.specs.Value.{rowOf}
 use Rattle.lookup.specs.Answer.{Asked, holds, refuse, asked}
 use Rattle.values.specs.declared.Value.{Value}
@@ -21,11 +21,11 @@ tokens i (k ∷ ks) = k ∷ i ∷ 1 ∷ tokens (i + 1) ks
 
 -- a parse into a table of as many rows as there may be
 unfoldable pub parsed : List ℕ → List ℕ → List ℕ
-parsed text kinds = said (parsing text (tokens 0 kinds) rowsMax rules.levelMax)
+parsed text kinds = said (parsing text (tokens 0 kinds) rowsMax levelMax)
   where
     said : rules.Reading → List ℕ
     said (rules.done at used x) = 0 ∷ rowsOf 0 x
-    said (rules.refuse why at) = numberOf why ∷ at ∷ []
+    said (rules.refuse why at) = refusalNumber why ∷ at ∷ []
 
 -- the clause list of a predicate: the literals, and after them the ends
 unfoldable pub split : List ℕ → List ℕ
@@ -33,7 +33,7 @@ split rows = said (readRows [] rows)
   where
     said : Reading → List ℕ
     said (one t) = 0 ∷ clause.numbers (clause.clauses false t) ++ clause.endsFrom 0 (clause.clauses false t)
-    said (refused why place) = numberOf why ∷ place ∷ []
+    said (refused why place) = refusalNumber why ∷ place ∷ []
 
 -- a lookup's column and its values, each as a constant's row
 unfoldable pub values : List Value → List ℕ
@@ -45,4 +45,4 @@ lookedUp rows k = said (asked (readRows [] rows) k)
   where
     said : Asked → List ℕ
     said (holds c vs) = 0 ∷ c ∷ values vs
-    said (refuse why place) = numberOf why ∷ place ∷ []
+    said (refuse why place) = refusalNumber why ∷ place ∷ []

@@ -4,7 +4,7 @@ use mathlib.Core.Path.{ap, _∙_}
 use mathlib.Core.Bool.{false}
 use native.Mathlib.Omega.{arith}
 use Rattle.predicate.specs.Tree.{treeAt}
-use Rattle.normal.specs.Clause.{clauses}
+use Rattle.cnf.specs.Clause.{clauses}
 use Rattle.lookup.specs.Find.{gatheredOf, answered}
 use Rattle.lookup.proofs.Answering.{asked-many, counts, asked-none, asked-one}
 use borrow.Author.Needs.{needs}

@@ -2,8 +2,8 @@
 -- Assumes nothing.
 use mathlib.Core.Path.{sym, ap, _∙_}
 use native.Mathlib.Omega.{arith}
-use Rattle.tokens.specs.declared.refusal.Refusal.the-variants.{BadTree}
-use Rattle.rows.specs.Layout.{count}
+use Rattle.refusals.specs.declared.Refusal.the-variants.{BadTree}
+use Rattle.rows.specs.Layout.{rowCount}
 use Rattle.predicate.specs.Read.{checkedOf}
 use Rattle.predicate.specs.declared.Checked.the-variants.{Refused}
 use Rattle.predicate.proofs.Reading.{long-text, long-rows, ragged, in-turn}
@@ -16,11 +16,11 @@ count-requires c κs = search needs
 
 returns : tie.Need-returns
 unfolding checkedOf
-returns c = sym (ap (checkedOf (count (c .before .before .before .before .args .rows .now))) (long-text (c .before .before .before .before .args .text .now) (c .before .before .before .before .args .rows .now) (c .if1 .taken)))
+returns c = sym (ap (checkedOf (rowCount (c .before .before .before .before .args .rows .now))) (long-text (c .before .before .before .before .args .text .now) (c .before .before .before .before .args .rows .now) (c .if1 .taken)))
 
 returns-2 : tie.Need-returns-2
 unfolding checkedOf
-returns-2 c = sym (ap (checkedOf (count (c .before .before .before .before .before .args .rows .now))) (long-rows (c .before .before .before .before .before .args .text .now) (c .before .before .before .before .before .args .rows .now) (c .before .if1 .left) (omega (arith, c .if2 .taken, c .before .before .count .ensures))))
+returns-2 c = sym (ap (checkedOf (rowCount (c .before .before .before .before .before .args .rows .now))) (long-rows (c .before .before .before .before .before .args .text .now) (c .before .before .before .before .before .args .rows .now) (c .before .if1 .left) (omega (arith, c .if2 .taken, c .before .before .count .ensures))))
 
 only-whole-requires : tie.Need-only-whole-requires
 only-whole-requires c κs = search needs
@@ -30,11 +30,11 @@ check-rows-requires c κs = search needs
 
 returns-3 : tie.Need-returns-3
 unfolding checkedOf
-returns-3 c = c .check-rows .ensures ∙ sym (ap (checkedOf (count (c .before .before .before .before .before .before .before .before .args .rows .now))) (in-turn (c .before .before .before .before .before .before .before .before .args .text .now) (c .before .before .before .before .before .before .before .before .args .rows .now) (c .before .before .before .before .if1 .left) (omega (arith, c .before .before .before .if2 .left, c .before .before .before .before .before .count .ensures)) (sym (c .before .before .only-whole .ensures) ∙ c .before .if3 .taken)))
+returns-3 c = c .check-rows .ensures ∙ sym (ap (checkedOf (rowCount (c .before .before .before .before .before .before .before .before .args .rows .now))) (in-turn (c .before .before .before .before .before .before .before .before .args .text .now) (c .before .before .before .before .before .before .before .before .args .rows .now) (c .before .before .before .before .if1 .left) (omega (arith, c .before .before .before .if2 .left, c .before .before .before .before .before .count .ensures)) (sym (c .before .before .only-whole .ensures) ∙ c .before .if3 .taken)))
 
 returns-4 : tie.Need-returns-4
 unfolding checkedOf
-returns-4 c = ap (Refused BadTree) (c .before .before .before .before .count .ensures) ∙ sym (ap (checkedOf (count (c .before .before .before .before .before .before .before .args .rows .now))) (ragged (c .before .before .before .before .before .before .before .args .text .now) (c .before .before .before .before .before .before .before .args .rows .now) (c .before .before .before .if1 .left) (omega (arith, c .before .before .if2 .left, c .before .before .before .before .count .ensures)) (sym (c .before .only-whole .ensures) ∙ c .if3 .left)))
+returns-4 c = ap (Refused BadTree) (c .before .before .before .before .count .ensures) ∙ sym (ap (checkedOf (rowCount (c .before .before .before .before .before .before .before .args .rows .now))) (ragged (c .before .before .before .before .before .before .before .args .text .now) (c .before .before .before .before .before .before .before .args .rows .now) (c .before .before .before .if1 .left) (omega (arith, c .before .before .if2 .left, c .before .before .before .before .count .ensures)) (sym (c .before .only-whole .ensures) ∙ c .if3 .left)))
 
 pub check-spec : {M : Type 1} → statement M
 check-spec =

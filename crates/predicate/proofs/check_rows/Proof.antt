@@ -5,17 +5,17 @@ use borrow.Author.Tests.{not-true, not-false}
 use mathlib.Core.Path.{_≡_, sym, ap, _∙_}
 use Prim.Native.Nat.{_-_}
 use native.Mathlib.Omega.{arith}
-use Rattle.rows.specs.Layout.{count}
+use Rattle.rows.specs.Layout.{rowCount}
 use Rattle.predicate.specs.declared.Checked.the-variants.{Good}
 use Rattle.predicate.proofs.Reading.{Reads, begins, below-of, sound-last, goes, stops, ends-none, ends-one, ends-many}
 use Rattle.predicate.proofs.check_rows.Statement.{statement}
 use Rattle.predicate.proofs.check_rows.Tie as tie
 
 abbrev Inv-loop : tie.InvT-loop
-Inv-loop text rows whole r₀ r = Reads text rows r × (whole ≡ count rows)
+Inv-loop text rows whole r₀ r = Reads text rows r × (whole ≡ rowCount rows)
 
 abbrev μ-loop : tie.MeasureT-loop
-μ-loop text rows whole r₀ r = count rows - r
+μ-loop text rows whole r₀ r = rowCount rows - r
 
 count-requires : tie.Need-count-requires Inv-loop μ-loop
 count-requires c κs = search needs

@@ -5,7 +5,7 @@ mod Visit
 use Rattle.lookup.proofs.clause.+visit.Proof.Measures.{μ-visit, visit-at, visit-below}
 use Rattle.lookup.proofs.clause.+visit.Proof.Visit.{visit-part-at-requires, visit-enum-known-v, visit-gather-at-requires, visit-enum-known-v-2, visit-count-at-requires, visit-div-visit, visit-visit-requires, visit-rem-visit, visit-visit-requires-2, visit-count-at-requires-2, visit-turn-to-requires, visit-visit-requires-3, visit-returns, visit-returns-2, visit-returns-3}
 use Rattle.lookup.proofs.clause.visit.Reads as visit
-use Rattle.normal.proofs.part_at.Reads as part-at-reads
+use Rattle.cnf.proofs.part_at.Reads as part-at-reads
 use Rattle.lookup.proofs.clause.turn_to.Reads as turn-to-reads
 use Rattle.lookup.proofs.counts.count_at.Reads as count-at-reads
 use Rattle.columns.proofs.gather.gather_at.Reads as gather-at-reads

@@ -9,8 +9,8 @@ use Prim.Native.Nat.{ℕ}
 use Rattle.reader.proofs.+argument+arguments+atom+closings+expression+infixed+infixes+named+right+tail.Proof.Measures.{argument-at, expression-below}
 use Rattle.reader.proofs.argument.Reads as argument
 use Rattle.reader.proofs.expression.Reads as expression
-use Rattle.grammar.proofs.step.again.Reads as again-reads
-use Rattle.grammar.proofs.step.need.Reads as need-reads
+use Rattle.steps.proofs.step.again.Reads as again-reads
+use Rattle.steps.proofs.step.need.Reads as need-reads
 use Rattle.reader.proofs.+argument+arguments+atom+closings+expression+infixed+infixes+named+right+tail.Lts-argument as argument-lts
 
 -- what is known of the functions that it calls

@@ -2,7 +2,7 @@
 -- how many tokens are left; there are no more arguments than tokens.
 -- Assumes nothing.
 use Rattle.tokens.specs.Kind as kind
-use Rattle.tokens.specs.Token.{count, kindAt}
+use Rattle.tokens.specs.Token.{tokenCount, kindAt}
 use Rattle.grammar.specs.Memory as M
 use Rattle.grammar.proofs.Steps.{on, same-as, refused, Moves, Turning, begins, turns, arguments-end, arguments-on}
 use Rattle.grammar.proofs.Going.{came, kind-is, argument-goes, expression-goes}
@@ -13,7 +13,7 @@ use Prim.Native.Nat.{ℕ, _+_, _-_, _≤_}
 use Rattle.reader.proofs.+argument+arguments+atom+closings+expression+infixed+infixes+named+right+tail.Proof.Measures.{argument-below, arguments-at}
 use Rattle.reader.proofs.argument.Reads as argument
 use Rattle.reader.proofs.arguments.Reads as arguments
-use Rattle.grammar.proofs.step.put.Reads as put-reads
+use Rattle.steps.proofs.step.put.Reads as put-reads
 use Rattle.tokens.proofs.table.kind_at.Reads as kind-at-reads
 use Rattle.reader.proofs.+argument+arguments+atom+closings+expression+infixed+infixes+named+right+tail.Lts-arguments as arguments-lts
 
@@ -25,7 +25,7 @@ abbrev pub arguments-Inv-loop : arguments-lts.InvT-loop
 arguments-Inv-loop text tokens rows₀ rest name c₀ n₀ rows c n = Turning (M.arguments text tokens (M.expression text tokens rest) name n) (M.arguments text tokens (M.expression text tokens rest) name 0 (M.fuel tokens) c₀ rows₀) tokens rows₀ c rows × (n ≤ c .at)
 
 abbrev pub arguments-μ-loop : arguments-lts.MeasureT-loop
-arguments-μ-loop text tokens rows₀ rest name c₀ n₀ rows c n = count tokens - c .at
+arguments-μ-loop text tokens rows₀ rest name c₀ n₀ rows c n = tokenCount tokens - c .at
 
 pub arguments-loop-holds : (t : ℕ) → arguments-lts.Need-loop-holds (calls t) (arguments-at t) arguments.Post arguments-Inv-loop arguments-μ-loop
 arguments-loop-holds t c = (begins _ _ _ _ (c .before .before .before .pre .1), omega arith)

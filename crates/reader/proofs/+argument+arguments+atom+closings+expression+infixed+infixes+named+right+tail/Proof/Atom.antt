@@ -13,8 +13,8 @@ use Prim.Native.Nat.{ℕ}
 use Rattle.reader.proofs.+argument+arguments+atom+closings+expression+infixed+infixes+named+right+tail.Proof.Measures.{atom-at, named-below}
 use Rattle.reader.proofs.atom.Reads as atom
 use Rattle.reader.proofs.named.Reads as named
-use Rattle.grammar.proofs.leaf.numeral.Reads as numeral-reads
-use Rattle.grammar.proofs.step.leaf.Reads as leaf-reads
+use Rattle.steps.proofs.leaf.numeral.Reads as numeral-reads
+use Rattle.steps.proofs.step.leaf.Reads as leaf-reads
 use Rattle.operators.proofs.operator.start_of.Reads as start-of-reads
 use Rattle.tokens.proofs.table.kind_at.Reads as kind-at-reads
 use Rattle.reader.proofs.+argument+arguments+atom+closings+expression+infixed+infixes+named+right+tail.Lts-atom as atom-lts

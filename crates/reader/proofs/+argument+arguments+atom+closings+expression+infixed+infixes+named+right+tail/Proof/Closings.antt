@@ -1,7 +1,7 @@
 -- `reader::closings` meets its contract. The loop's invariant: what is to come from here is what was to come from the start, and with each opening
 -- that is closed a level is won back. The measure is the openings that are left.
 use lib.ListN.{length}
-use Rattle.tokens.specs.Token.{count}
+use Rattle.tokens.specs.Token.{tokenCount}
 use Rattle.grammar.specs.Memory as M
 use Rattle.grammar.proofs.Steps.{on, refused, stays}
 use Rattle.grammar.proofs.Going.{came, tail-goes, tail-some, closed-goes, closed-some, expression-goes, expression-some}
@@ -14,8 +14,8 @@ use Prim.Native.Nat.{ℕ, _+_, _-_, _<_, _≤_}
 use Rattle.reader.proofs.+argument+arguments+atom+closings+expression+infixed+infixes+named+right+tail.Proof.Measures.{closings-at, tail-below}
 use Rattle.reader.proofs.closings.Reads as closings
 use Rattle.reader.proofs.tail.Reads as tail
-use Rattle.grammar.proofs.opening.closed.Reads as closed-reads
-use Rattle.grammar.proofs.opening.minimum.Reads as minimum-reads
+use Rattle.steps.proofs.opening.closed.Reads as closed-reads
+use Rattle.steps.proofs.opening.minimum.Reads as minimum-reads
 use Rattle.tokens.proofs.table.kind_at.Reads as kind-at-reads
 use Rattle.reader.proofs.+argument+arguments+atom+closings+expression+infixed+infixes+named+right+tail.Lts-closings as closings-lts
 
@@ -25,7 +25,7 @@ calls t = (minimum-reads.Asked, minimum-reads.Learnt, tail-below t, tail.Post, k
 
 abbrev pub closings-Inv-loop : closings-lts.InvT-loop
 closings-Inv-loop text tokens rows₀ innermost from end min c₀ at₀ rest₀ rows c at rest =
-    (length rows ≡ length rows₀) × (c .at ≤ count tokens) × (0 < c .rows) × (from ≤ at) × (rest + (at - from) ≡ innermost + (end - from))
+    (length rows ≡ length rows₀) × (c .at ≤ tokenCount tokens) × (0 < c .rows) × (from ≤ at) × (rest + (at - from) ≡ innermost + (end - from))
     × (M.closings text tokens min from rest (at - from) c rows ≡ M.closings text tokens min from innermost (end - from) c₀ rows₀)
 
 abbrev pub closings-μ-loop : closings-lts.MeasureT-loop
@@ -68,7 +68,7 @@ pub closings-kind-at-requires : (t : ℕ) → closings-lts.Need-kind-at-requires
 closings-kind-at-requires t c κs = search needs
 
 -- after a tail
-stands : (t : ℕ) (c : closings-lts.After-s (calls t) (closings-at t) closings.Post closings-Inv-loop closings-μ-loop) → (c .s .given .0 .0 .at ≤ count (c .before .before .before .before .before .before .before .before .before .before .before .args .tokens .now)) × (0 < c .s .given .0 .0 .rows)
+stands : (t : ℕ) (c : closings-lts.After-s (calls t) (closings-at t) closings.Post closings-Inv-loop closings-μ-loop) → (c .s .given .0 .0 .at ≤ tokenCount (c .before .before .before .before .before .before .before .before .before .before .before .args .tokens .now)) × (0 < c .s .given .0 .0 .rows)
 stands t c = (came (c .s .given .1) (c .before .before .before .before .tail .ensures) (tail-goes _ _ _ (expression-goes _ _ _) _ _ _ (c .before .before .before .before .before .before .before .loop .inv .1)) .within, came (c .s .given .1) (c .before .before .before .before .tail .ensures) (tail-some _ _ _ (expression-some _ _ _) _ _ _ (c .before .before .before .before .before .before .before .loop .inv .2)))
 
 pub closings-closed-requires : (t : ℕ) → closings-lts.Need-closed-requires (calls t) (closings-at t) closings.Post closings-Inv-loop closings-μ-loop

@@ -11,7 +11,7 @@ use Rattle.reader.proofs.+argument+arguments+atom+closings+expression+i
 use Rattle.reader.proofs.atom.Reads as atom
 use Rattle.reader.proofs.closings.Reads as closings
 use Rattle.reader.proofs.expression.Reads as expression
-use Rattle.grammar.proofs.opening.opened.Reads as opened-reads
+use Rattle.steps.proofs.opening.opened.Reads as opened-reads
 use Rattle.reader.proofs.+argument+arguments+atom+closings+expression+infixed+infixes+named+right+tail.Lts-expression as expression-lts
 
 -- what is known of the functions that it calls

@@ -2,7 +2,7 @@
 -- Assumes nothing.
 use Rattle.tokens.specs.Token.{kindAt}
 use Rattle.operators.specs.Operator.{infixOf, rightOf}
-use Rattle.grammar.specs.Tree.{rowOf}
+use Rattle.syntax.specs.Tree.{rowOf}
 use Rattle.grammar.specs.Memory as M
 use Rattle.grammar.specs.Memory.{Gives}
 use Rattle.grammar.proofs.Steps.{on, same-as, refused}
@@ -14,7 +14,7 @@ use Prim.Native.Nat.{ℕ, _-_}
 use Rattle.reader.proofs.+argument+arguments+atom+closings+expression+infixed+infixes+named+right+tail.Proof.Measures.{infixed-at, right-below}
 use Rattle.reader.proofs.infixed.Reads as infixed
 use Rattle.reader.proofs.right.Reads as right
-use Rattle.grammar.proofs.step.put.Reads as put-reads
+use Rattle.steps.proofs.step.put.Reads as put-reads
 use Rattle.operators.proofs.operator.right_of.Reads as right-of-reads
 use Rattle.operators.proofs.operator.row_of.Reads as row-of-reads
 use Rattle.tokens.proofs.table.kind_at.Reads as kind-at-reads

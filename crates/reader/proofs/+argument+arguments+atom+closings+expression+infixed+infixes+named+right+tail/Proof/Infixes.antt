@@ -3,7 +3,7 @@
 -- Assumes nothing.
 use borrow.Author.Tests.{not-true, not-false}
 use mathlib.Core.Bool.{true}
-use Rattle.tokens.specs.Token.{count, kindAt}
+use Rattle.tokens.specs.Token.{tokenCount, kindAt}
 use Rattle.operators.specs.Operator.{binds, infixOf}
 use Rattle.grammar.specs.Memory as M
 use Rattle.grammar.proofs.Steps.{on, refused, stays, Moves, Turning, begins, turns, while-on, while-off}
@@ -26,7 +26,7 @@ abbrev pub infixes-Inv-loop : infixes-lts.InvT-loop
 infixes-Inv-loop text tokens rows₀ rest min c₀ rows c = Turning (M.while (λ (at : ℕ). binds (infixOf (kindAt tokens at) .precedence) min) (M.infixed text tokens (M.expression text tokens rest))) (M.infixes text tokens (M.expression text tokens rest) min c₀ rows₀) tokens rows₀ c rows × (0 < c .rows)
 
 abbrev pub infixes-μ-loop : infixes-lts.MeasureT-loop
-infixes-μ-loop text tokens rows₀ rest min c₀ rows c = count tokens - c .at
+infixes-μ-loop text tokens rows₀ rest min c₀ rows c = tokenCount tokens - c .at
 
 pub infixes-loop-holds : (t : ℕ) → infixes-lts.Need-loop-holds (calls t) (infixes-at t) infixes.Post infixes-Inv-loop infixes-μ-loop
 unfolding M.infixes

@@ -10,7 +10,7 @@ use Prim.Native.Nat.{ℕ}
 use Rattle.reader.proofs.+argument+arguments+atom+closings+expression+infixed+infixes+named+right+tail.Proof.Measures.{arguments-below, named-at}
 use Rattle.reader.proofs.arguments.Reads as arguments
 use Rattle.reader.proofs.named.Reads as named
-use Rattle.grammar.proofs.leaf.column.Reads as column-reads
+use Rattle.steps.proofs.leaf.column.Reads as column-reads
 use Rattle.tokens.proofs.table.kind_at.Reads as kind-at-reads
 use Rattle.reader.proofs.+argument+arguments+atom+closings+expression+infixed+infixes+named+right+tail.Lts-named as named-lts
 

@@ -9,9 +9,9 @@ use Prim.Native.Nat.{ℕ, _-_}
 use Rattle.reader.proofs.+argument+arguments+atom+closings+expression+infixed+infixes+named+right+tail.Proof.Measures.{expression-below, right-at}
 use Rattle.reader.proofs.expression.Reads as expression
 use Rattle.reader.proofs.right.Reads as right
-use Rattle.grammar.proofs.leaf.alone.Reads as alone-reads
-use Rattle.grammar.proofs.step.again.Reads as again-reads
-use Rattle.grammar.proofs.step.leaf.Reads as leaf-reads
+use Rattle.steps.proofs.leaf.alone.Reads as alone-reads
+use Rattle.steps.proofs.step.again.Reads as again-reads
+use Rattle.steps.proofs.step.leaf.Reads as leaf-reads
 use Rattle.reader.proofs.+argument+arguments+atom+closings+expression+infixed+infixes+named+right+tail.Lts-right as right-lts
 
 -- what is known of the functions that it calls

@@ -1,7 +1,7 @@
 -- `reader::tail` meets its contract: each step goes on from where the one before came to, within the tokens and with a row written.
 -- Assumes nothing.
 use borrow.Author.Tests.{not-true}
-use Rattle.tokens.specs.Token.{count}
+use Rattle.tokens.specs.Token.{tokenCount}
 use Rattle.operators.specs.Operator.{operates}
 use Rattle.operators.proofs.Ends.{operates-not}
 use Rattle.grammar.specs.Memory as M
@@ -15,10 +15,10 @@ use Prim.Native.Nat.{ℕ, _<_, _≤_}
 use Rattle.reader.proofs.+argument+arguments+atom+closings+expression+infixed+infixes+named+right+tail.Proof.Measures.{infixes-below, tail-at}
 use Rattle.reader.proofs.infixes.Reads as infixes
 use Rattle.reader.proofs.tail.Reads as tail
-use Rattle.grammar.proofs.postfix.any_postfixes.Reads as any-postfixes-reads
-use Rattle.grammar.proofs.postfix.postfix_at.Reads as postfix-at-reads
-use Rattle.grammar.proofs.postfix.postfixes.Reads as postfixes-reads
-use Rattle.grammar.proofs.step.again.Reads as again-reads
+use Rattle.steps.proofs.postfix.any_postfixes.Reads as any-postfixes-reads
+use Rattle.steps.proofs.postfix.postfix_at.Reads as postfix-at-reads
+use Rattle.steps.proofs.postfix.postfixes.Reads as postfixes-reads
+use Rattle.steps.proofs.step.again.Reads as again-reads
 use Rattle.operators.proofs.operator.operates.Reads as operates-reads
 use Rattle.tokens.proofs.table.kind_at.Reads as kind-at-reads
 use Rattle.reader.proofs.+argument+arguments+atom+closings+expression+infixed+infixes+named+right+tail.Lts-tail as tail-lts
@@ -55,7 +55,7 @@ pub tail-returns-2 : (t : ℕ) → tail-lts.Need-returns-2 (calls t) (tail-at t)
 tail-returns-2 t c = refused _ (c .enum-told .given .1) (c .before .before .before .before .any-postfixes .ensures) refl
 
 -- after the first postfix operators
-stands : (t : ℕ) (c : tail-lts.After-first (calls t) (tail-at t) tail.Post) → (c .first .given .0 .0 .at ≤ count (c .before .before .before .before .before .before .before .before .before .before .before .before .args .tokens .now)) × (0 < c .first .given .0 .0 .rows)
+stands : (t : ℕ) (c : tail-lts.After-first (calls t) (tail-at t) tail.Post) → (c .first .given .0 .0 .at ≤ tokenCount (c .before .before .before .before .before .before .before .before .before .before .before .before .args .tokens .now)) × (0 < c .first .given .0 .0 .rows)
 stands t c = (came (c .first .given .1) (c .before .before .before .before .any-postfixes .ensures) (postfixes-goes _ _ _ _ (c .before .before .before .before .before .before .before .before .before .before .before .before .pre .1 .0)) .within, came (c .first .given .1) (c .before .before .before .before .any-postfixes .ensures) (postfixes-some _ _ _ _ (c .before .before .before .before .before .before .before .before .before .before .before .before .pre .1 .1)))
 
 pub tail-infixes-requires : (t : ℕ) → tail-lts.Need-infixes-requires (calls t) (tail-at t) tail.Post

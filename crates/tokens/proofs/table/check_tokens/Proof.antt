@@ -5,16 +5,16 @@ use Prim.Native.Nat.{_-_}
 use native.Mathlib.Omega.{arith}
 use borrow.Author.Needs.{needs}
 use borrow.Author.Tests.{not-true, not-false}
-use Rattle.tokens.specs.Token.{count}
+use Rattle.tokens.specs.Token.{tokenCount}
 use Rattle.tokens.proofs.Tabled.{Checking, check-begins, check-on, check-off, check-ends}
 use Rattle.tokens.proofs.table.check_tokens.Statement.{statement}
 use Rattle.tokens.proofs.table.check_tokens.Tie as tie
 
 abbrev Inv-loop : tie.InvT-loop
-Inv-loop text tokens whole n₀ n = Checking text tokens n × (whole ≡ count tokens)
+Inv-loop text tokens whole n₀ n = Checking text tokens n × (whole ≡ tokenCount tokens)
 
 abbrev μ-loop : tie.MeasureT-loop
-μ-loop text tokens whole n₀ n = count tokens - n
+μ-loop text tokens whole n₀ n = tokenCount tokens - n
 
 loop-holds : tie.Need-loop-holds Inv-loop μ-loop
 loop-holds c = (check-begins _ _, refl)

@@ -7,7 +7,7 @@ use mathlib.Core.Path.{_∙_}
 use Prim.Native.Nat.{ℕ}
 use Rattle.lookup.proofs.clause.+visit.Proof.Measures.{visit-at, visit-below}
 use Rattle.lookup.proofs.clause.visit.Reads as visit
-use Rattle.normal.proofs.part_at.Reads as part-at-reads
+use Rattle.cnf.proofs.part_at.Reads as part-at-reads
 use Rattle.lookup.proofs.clause.turn_to.Reads as turn-to-reads
 use Rattle.lookup.proofs.counts.count_at.Reads as count-at-reads
 use Rattle.columns.proofs.gather.gather_at.Reads as gather-at-reads

@@ -1,0 +1,173 @@
+-- The sizes of clause lists. Two lists joined have the size that their sizes give (`size-join`), since neither is empty (`clauses-some`); a size that is
+-- none too many is the list's own (`size-is`).
+-- Assumes nothing.
+use Prim.Native.Nat.{ℕ, _+_, _*_, _<_, _≤_}
+use mathlib.Core.Path.{_≡_, refl, sym, ap, ap₂, _∙_, subst}
+use mathlib.Core.Bool.{Bool, true, false, not}
+use mathlib.Core.List.{List, [], _∷_, _++_, append-assoc}
+use native.Mathlib.Omega.{arith}
+use native.Mathlib.Nat.{le-mul-of-pos-right, le-trans}
+use lib.ListN.{length, length-append, length-map}
+use lib.Dec.{leb}
+use borrow.Author.Tests.{lt-leb, leb-true, leb-false}
+use Rattle.limits.specs.Limits.{clausesMax, literalsMax}
+use Rattle.predicate.specs.Tree.{Tree, leaf, unary, binary, both, either, negate}
+use Rattle.cnf.specs.Clause.{Literal, cross, join, clauses, total}
+use Rattle.cnf.specs.Size.{pick, capped, sizeOf, joined, Small}
+use Rattle.cnf.specs.declared.Size.{Size}
+use Rattle.cnf.specs.declared.Size.the-variants.{Many, Is}
+use Rattle.cnf.proofs.Crossing.{before, cross-cross}
+
+-- ---- caps
+
+many-clauses : (c l : ℕ) → clausesMax < c → capped c l ≡ Many
+unfolding capped
+many-clauses c l h = ap (λ (b : Bool). pick b (pick (leb l literalsMax) (Is c l) Many) Many) (lt-leb c clausesMax h)
+
+many-literals : (c l : ℕ) → literalsMax < l → capped c l ≡ Many
+unfolding capped
+many-literals c l h = ap (λ (b : Bool). pick (leb c clausesMax) (pick b (Is c l) Many) Many) (lt-leb l literalsMax h) ∙ go (leb c clausesMax)
+  where
+    go : (p : Bool) → pick p Many Many ≡ Many
+    go true = refl
+    go false = refl
+
+-- what a capped size says
+abbrev Caps : ℕ → ℕ → Size → Type 0
+Caps c l Many = Unit {0}
+Caps c l (Is d m) = (d ≡ c) × (m ≡ l) × (c ≤ clausesMax) × (l ≤ literalsMax)
+
+cap-is : (c l : ℕ) → Caps c l (capped c l)
+unfolding capped
+cap-is c l = go (leb c clausesMax) (leb l literalsMax) refl refl
+  where
+    go : (p q : Bool) → leb c clausesMax ≡ p → leb l literalsMax ≡ q → Caps c l (pick p (pick q (Is c l) Many) Many)
+    go true true e f = (refl, refl, leb-true c clausesMax e, leb-true l literalsMax f)
+    go true false e f = tt
+    go false q e f = tt
+
+pub size-is : (cs : List (List Literal)) {c l : ℕ} → sizeOf cs ≡ Is c l
+    → (c ≡ length cs) × (l ≡ total cs) × (length cs ≤ clausesMax) × (total cs ≤ literalsMax)
+unfolding sizeOf
+size-is cs e = subst (Caps (length cs) (total cs)) e (cap-is (length cs) (total cs))
+
+pub size-many : (cs : List (List Literal)) → sizeOf cs ≡ Many → length cs ≤ clausesMax → total cs ≤ literalsMax → ⊥
+unfolding sizeOf capped
+size-many cs e h k = go (leb (length cs) clausesMax) (leb (total cs) literalsMax) refl refl e
+  where
+    go : (p q : Bool) → leb (length cs) clausesMax ≡ p → leb (total cs) literalsMax ≡ q → pick p (pick q (Is (length cs) (total cs)) Many) Many ≡ Many → ⊥
+    go true true f g d = let z : _≡_ {A = ℕ} 0 1 = cc in omega arith
+    go true false f g d = omega (arith, leb-false (total cs) literalsMax g)
+    go false q f g d = omega (arith, leb-false (length cs) clausesMax f)
+
+small-caps : (c l : ℕ) (s : Size) → Caps c l s → Small s
+small-caps c l Many h = tt
+small-caps c l (Is d m) h = (omega (arith, h .0, h .2), omega (arith, h .1, h .3))
+
+pub small-size : (cs : List (List Literal)) {s : Size} → s ≡ sizeOf cs → Small s
+unfolding sizeOf
+small-size cs e = subst Small (sym e) (small-caps (length cs) (total cs) (sizeOf cs) (cap-is (length cs) (total cs)))
+
+pub small-joined : (o : Bool) (a b : Size) → Small (joined o a b)
+unfolding joined
+small-joined o Many b = tt
+small-joined o (Is c l) Many = tt
+small-joined false (Is c l) (Is d m) = small-caps (c + d) (l + m) (capped (c + d) (l + m)) (cap-is (c + d) (l + m))
+small-joined true (Is c l) (Is d m) = small-caps (c * d) (l * d + m * c) (capped (c * d) (l * d + m * c)) (cap-is (c * d) (l * d + m * c))
+
+pub small-is : {s : Size} {c l : ℕ} → s ≡ Is c l → Small s → (c ≤ clausesMax) × (l ≤ literalsMax)
+small-is e h = subst Small e h
+
+-- ---- two sizes together
+
+abbrev clausesOf : Bool → ℕ → ℕ → ℕ
+clausesOf false c d = c + d
+clausesOf true c d = c * d
+
+abbrev literalsOf : Bool → ℕ → ℕ → ℕ → ℕ → ℕ
+literalsOf false c l d m = l + m
+literalsOf true c l d m = l * d + m * c
+
+module _ (c l d m : ℕ) (hc : 0 < c) (hd : 0 < d) where
+  -- neither list is larger than both together
+  left-clauses : (o : Bool) → c ≤ clausesOf o c d
+  left-clauses false = omega arith
+  left-clauses true = le-mul-of-pos-right c hd
+
+  right-clauses : (o : Bool) → d ≤ clausesOf o c d
+  right-clauses false = omega arith
+  right-clauses true = omega (arith, le-mul-of-pos-right d hc)
+
+  left-literals : (o : Bool) → l ≤ literalsOf o c l d m
+  left-literals false = omega arith
+  left-literals true = omega (arith, le-mul-of-pos-right l hd)
+
+  right-literals : (o : Bool) → m ≤ literalsOf o c l d m
+  right-literals false = omega arith
+  right-literals true = omega (arith, le-mul-of-pos-right m hc)
+
+  join-capped : (o : Bool) → joined o (capped c l) (capped d m) ≡ capped (clausesOf o c d) (literalsOf o c l d m)
+  unfolding joined capped
+  join-capped o = go (leb c clausesMax) (leb l literalsMax) (leb d clausesMax) (leb m literalsMax) refl refl refl refl
+    where
+      last : (q : Bool) → joined q (Is c l) (Is d m) ≡ capped (clausesOf q c d) (literalsOf q c l d m)
+      last false = refl
+      last true = refl
+
+      go : (p q r s : Bool) → leb c clausesMax ≡ p → leb l literalsMax ≡ q → leb d clausesMax ≡ r → leb m literalsMax ≡ s
+          → joined o (pick p (pick q (Is c l) Many) Many) (pick r (pick s (Is d m) Many) Many) ≡ capped (clausesOf o c d) (literalsOf o c l d m)
+      go false q r s ep eq er es = sym (many-clauses (clausesOf o c d) (literalsOf o c l d m) (omega (arith, left-clauses o, leb-false c clausesMax ep)))
+      go true false r s ep eq er es = sym (many-literals (clausesOf o c d) (literalsOf o c l d m) (omega (arith, left-literals o, leb-false l literalsMax eq)))
+      go true true false s ep eq er es = sym (many-clauses (clausesOf o c d) (literalsOf o c l d m) (omega (arith, right-clauses o, leb-false d clausesMax er)))
+      go true true true false ep eq er es = sym (many-literals (clausesOf o c d) (literalsOf o c l d m) (omega (arith, right-literals o, leb-false m literalsMax es)))
+      go true true true true ep eq er es = last o
+
+-- ---- two lists together
+
+pub length-cross : (xs ys : List (List Literal)) → length (cross xs ys) ≡ length xs * length ys
+length-cross [] ys = omega arith
+length-cross (x ∷ xs) ys =
+    length-append (before x ys) (cross xs ys) ∙ ap₂ _+_ (length-map ys (λ (y : List Literal). x ++ y)) (length-cross xs ys) ∙ omega arith
+
+pub total-append : (xs ys : List (List Literal)) → total (xs ++ ys) ≡ total xs + total ys
+total-append [] ys = omega arith
+total-append (x ∷ xs) ys = omega (arith, total-append xs ys)
+
+total-before : (x : List Literal) (ys : List (List Literal)) → total (before x ys) ≡ length x * length ys + total ys
+total-before x [] = omega arith
+total-before x (y ∷ ys) = omega (arith, length-append x y, total-before x ys)
+
+pub total-cross : (xs ys : List (List Literal)) → total (cross xs ys) ≡ total xs * length ys + total ys * length xs
+total-cross [] ys = omega arith
+total-cross (x ∷ xs) ys = omega (arith, total-append (before x ys) (cross xs ys), total-before x ys, total-cross xs ys)
+
+pub length-join : (o : Bool) (xs ys : List (List Literal)) → length (join o xs ys) ≡ clausesOf o (length xs) (length ys)
+length-join false xs ys = length-append xs ys
+length-join true xs ys = length-cross xs ys
+
+pub total-join : (o : Bool) (xs ys : List (List Literal)) → total (join o xs ys) ≡ literalsOf o (length xs) (total xs) (length ys) (total ys)
+total-join false xs ys = total-append xs ys
+total-join true xs ys = total-cross xs ys
+
+pub join-some : (o : Bool) (xs ys : List (List Literal)) → 0 < length xs → 0 < length ys → 0 < length (join o xs ys)
+join-some o xs ys h k = subst (λ (n : ℕ). 0 < n) (sym (length-join o xs ys)) (le-trans h (left-clauses (length xs) 0 (length ys) 0 h k o))
+
+-- how lists are bracketed does not matter
+pub join-join : (o : Bool) (xs ys zs : List (List Literal)) → join o (join o xs ys) zs ≡ join o xs (join o ys zs)
+join-join false xs ys zs = append-assoc xs ys zs
+join-join true xs ys zs = cross-cross xs ys zs
+
+-- no tree's list is empty
+pub clauses-some : (g : Bool) (t : Tree) → 0 < length (clauses g t)
+unfolding clauses
+clauses-some g (leaf r w) = omega arith
+clauses-some g (unary r k y a) = omega arith
+clauses-some g (binary r k a b) = omega arith
+clauses-some g (both r a b) = join-some g (clauses g a) (clauses g b) (clauses-some g a) (clauses-some g b)
+clauses-some g (either r a b) = join-some (not g) (clauses g a) (clauses g b) (clauses-some g a) (clauses-some g b)
+clauses-some g (negate r a) = clauses-some (not g) a
+
+pub size-join : (o : Bool) (xs ys : List (List Literal)) → 0 < length xs → 0 < length ys → joined o (sizeOf xs) (sizeOf ys) ≡ sizeOf (join o xs ys)
+unfolding sizeOf
+size-join o xs ys h k =
+    join-capped (length xs) (total xs) (length ys) (total ys) h k o ∙ ap₂ capped (sym (length-join o xs ys)) (sym (total-join o xs ys))

@@ -1,0 +1,51 @@
+-- `numbers::digits` is safe and ends. The loop goes through the bytes of the word, and those that are left fall. Assumes nothing.
+use Prim.Native.Nat.{_-_, _≤_}
+use lib.ListN.{length}
+use borrow.Author.Needs.{needs}
+use Rattle.lines.proofs.numbers.digits.Statement.{statement}
+use Rattle.lines.proofs.numbers.digits.Tie as tie
+
+abbrev Inv-loop : tie.InvT-loop
+Inv-loop word from hex number₀ i₀ number i = i ≤ length word
+
+abbrev μ-loop : tie.MeasureT-loop
+μ-loop word from hex number₀ i₀ number i = length word - i
+
+returns : tie.Need-returns Inv-loop μ-loop
+returns c = search needs
+
+loop-holds : tie.Need-loop-holds Inv-loop μ-loop
+loop-holds c = search needs
+
+byte-requires : tie.Need-byte-requires Inv-loop μ-loop
+byte-requires c κs = search needs
+
+grown-requires : tie.Need-grown-requires Inv-loop μ-loop
+grown-requires c κs = search needs
+
+add-i : tie.Need-add-i Inv-loop μ-loop
+add-i c = search needs
+
+loop-less : tie.Need-loop-less Inv-loop μ-loop
+loop-less c = search needs
+
+loop-again : tie.Need-loop-again Inv-loop μ-loop
+loop-again c = search needs
+
+returns-2 : tie.Need-returns-2 Inv-loop μ-loop
+returns-2 c = search needs
+
+pub digits-spec : {M : Type 1} → statement M
+digits-spec =
+    tie.close
+    (tie.spec
+    Inv-loop
+    μ-loop
+    returns
+    loop-holds
+    byte-requires
+    grown-requires
+    add-i
+    loop-less
+    loop-again
+    returns-2)

@@ -1,0 +1,56 @@
+-- `whole` meets its contract: the expression, and then whether tokens are left.
+-- Assumes nothing.
+use mathlib.Core.Path.{refl, _∙_}
+use Rattle.grammar.specs.Memory.{whole}
+use Rattle.grammar.proofs.Steps.{on, refused, ends, stays, finish-over, finish-done}
+use borrow.Author.Needs.{needs}
+use Rattle.parser.proofs.whole.Statement.{statement}
+use Rattle.parser.proofs.whole.Tie as tie
+
+expression-requires : tie.Need-expression-requires
+expression-requires c κs = search needs
+
+enum-known-s : tie.Need-enum-known-s
+enum-known-s c = search needs
+
+enum-told : tie.Need-enum-told
+enum-told c = search needs
+
+same-length : tie.Need-same-length
+same-length c = search needs
+
+returns : tie.Need-returns
+unfolding whole
+returns c = refused _ (c .enum-told .given .1) (c .before .before .before .before .expression .ensures) refl
+
+count-requires : tie.Need-count-requires
+count-requires c κs = search needs
+
+same-length-2 : tie.Need-same-length-2
+same-length-2 c = search needs
+
+returns-2 : tie.Need-returns-2
+unfolding whole
+returns-2 c = ends (on _ (c .before .before .before .s .given .1) (c .before .before .before .before .before .before .before .expression .ensures) ∙ finish-over _ _ _ (rw (c .before .count .ensures) at (c .if1 .taken)))
+
+same-length-3 : tie.Need-same-length-3
+same-length-3 c = search needs
+
+returns-3 : tie.Need-returns-3
+unfolding whole
+returns-3 c = stays (on _ (c .before .before .before .s .given .1) (c .before .before .before .before .before .before .before .expression .ensures) ∙ finish-done _ _ _ (rw (c .before .count .ensures) at (c .if1 .left)))
+
+pub whole-spec : {M : Type 1} → statement M
+whole-spec =
+    tie.close
+    (tie.spec
+    expression-requires
+    enum-known-s
+    enum-told
+    same-length
+    returns
+    count-requires
+    same-length-2
+    returns-2
+    same-length-3
+    returns-3)

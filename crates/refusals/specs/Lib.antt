@@ -1,0 +1,2 @@
+-- The refusals and their numbers.
+pub mod Refusal
