@@ -1,124 +1,130 @@
-// What a row is called in a drawing: its name, with a value or the names that it holds.
-use crate::names::predicate_name;
-use crate::names::syntax_name;
-use crate::out::bits;
-use crate::out::decimal;
-use crate::out::put;
-use crate::out::quoted;
+// What a row is called in a drawing: its kind's name, with a value or the names that it holds.
+use crate::names::print_predicate_kind;
+use crate::names::print_syntax_kind;
+use crate::out::print;
+use crate::out::print_bits;
+use crate::out::print_decimal;
+use crate::out::print_quoted;
+use predicate::kind as predicate_kind;
 use rows::Row;
-use syntax::kind;
+use syntax::kind as syntax_kind;
 use tokens::table::spelled;
 use values::Value;
 use values::bits_of;
 use values::pattern_of;
 use values::value_of;
 
-fn truth(yes: bool) {
+fn print_truth(yes: bool) {
     if yes {
-        put(b"TRUE");
+        print(b"TRUE");
     } else {
-        put(b"FALSE");
+        print(b"FALSE");
     }
 }
 
-// An Integer, from its pattern.
-fn integer(pattern: u64) {
+// Prints an Integer, from its pattern.
+fn print_integer(pattern: u64) {
     if pattern < 9223372036854775808 {
-        decimal(pattern);
+        print_decimal(pattern);
     } else {
-        put(b"-");
-        decimal(std::num::wrapping_sub_u64(0, pattern));
+        print(b"-");
+        print_decimal(std::num::wrapping_sub_u64(0, pattern));
     }
 }
 
-// A Float, by its bits.
-fn float(pattern: u64) {
+// Prints a Float, by its bits.
+fn print_float(pattern: u64) {
     if pattern == 9221120237041090560 {
-        put(b"NAN");
+        print(b"NAN");
     } else {
-        bits(pattern);
+        print_bits(pattern);
     }
 }
 
-pub fn put_value(text: &[u8], v: Value) {
+pub fn print_value(text: &[u8], v: Value) {
     match v {
-        Value::Null => put(b"NULL"),
-        Value::Boolean(b) => truth(b),
-        Value::Integer(n) => integer(pattern_of(n)),
-        Value::Float(f) => float(bits_of(f)),
-        Value::String { start, length } => quoted(text, start, length),
+        Value::Null => print(b"NULL"),
+        Value::Boolean(b) => print_truth(b),
+        Value::Integer(n) => print_integer(pattern_of(n)),
+        Value::Float(f) => print_float(bits_of(f)),
+        Value::String { start, length } => print_quoted(text, start, length),
     }
 }
 
-// What IS asks for.
-fn asked(y: u64) {
+// Prints what IS asks for.
+fn print_null_or_nan(y: u64) {
     if y == 0 {
-        put(b" NULL");
+        print(b" NULL");
     } else {
-        put(b" NAN");
+        print(b" NAN");
     }
 }
 
-fn name(text: &[u8], tokens: &[u32], n: u64) {
-    put(spelled(text, tokens, n as usize));
+// Prints the bytes of a token.
+fn print_token(text: &[u8], tokens: &[u32], token: u64) {
+    print(spelled(text, tokens, token as usize));
 }
 
-fn qualified(text: &[u8], tokens: &[u32], row: Row) {
-    put(b" ");
-    name(text, tokens, row.x);
-    put(b".");
-    name(text, tokens, row.y);
+fn print_name(text: &[u8], tokens: &[u32], token: u64) {
+    print(b" ");
+    print_token(text, tokens, token);
 }
 
-fn plain(text: &[u8], tokens: &[u32], x: u64) {
-    put(b" ");
-    name(text, tokens, x);
+fn print_qualified_name(text: &[u8], tokens: &[u32], row: Row) {
+    print_name(text, tokens, row.x);
+    print(b".");
+    print_token(text, tokens, row.y);
 }
 
-fn string(text: &[u8], tokens: &[u32], x: u64) {
-    put(b" '");
-    name(text, tokens, x);
-    put(b"'");
+fn print_string(text: &[u8], tokens: &[u32], token: u64) {
+    print(b" '");
+    print_token(text, tokens, token);
+    print(b"'");
 }
 
-fn number(x: u64) {
-    put(b" ");
-    decimal(x);
+fn print_number(x: u64) {
+    print(b" ");
+    print_decimal(x);
 }
 
-fn boolean(x: u64) {
-    put(b" ");
-    truth(x != 0);
+fn print_boolean(x: u64) {
+    print(b" ");
+    print_truth(x != 0);
 }
 
-fn constant(text: &[u8], row: Row) {
-    put(b" ");
-    put_value(text, value_of(row));
+fn print_constant(text: &[u8], row: Row) {
+    print(b" ");
+    print_value(text, value_of(row));
 }
 
-// A syntax row. The arguments of a Function are drawn below it.
-pub fn syntax_row(text: &[u8], tokens: &[u32], row: Row) {
+// Prints a syntax row. The arguments of a Function are drawn below it.
+pub fn print_syntax_row(text: &[u8], tokens: &[u32], row: Row) {
     let k = row.kind;
-    syntax_name(k);
+    print_syntax_kind(k);
     match k {
-        kind::INTEGER => number(row.x),
-        kind::FLOAT | kind::COLUMN | kind::FUNCTION => plain(text, tokens, row.x),
-        kind::STRING => string(text, tokens, row.x),
-        kind::BOOLEAN => boolean(row.x),
-        kind::QUALIFIED => qualified(text, tokens, row),
-        kind::IS => asked(row.y),
+        syntax_kind::INTEGER => print_number(row.x),
+        syntax_kind::FLOAT | syntax_kind::COLUMN | syntax_kind::FUNCTION => print_name(
+            text,
+            tokens,
+            row.x,
+        ),
+        syntax_kind::STRING => print_string(text, tokens, row.x),
+        syntax_kind::BOOLEAN => print_boolean(row.x),
+        syntax_kind::QUALIFIED => print_qualified_name(text, tokens, row),
+        syntax_kind::IS => print_null_or_nan(row.y),
         _ => {}
     }
 }
 
-// A predicate row.
-pub fn predicate_row(text: &[u8], row: Row) {
+// Prints a predicate row.
+pub fn print_predicate_row(text: &[u8], row: Row) {
     let k = row.kind;
-    predicate_name(k);
+    print_predicate_kind(k);
     match k {
-        2 | 3 | 4 | 5 => constant(text, row),
-        6 => number(row.x),
-        13 => asked(row.y),
+        predicate_kind::BOOLEAN | predicate_kind::INTEGER => print_constant(text, row),
+        predicate_kind::FLOAT | predicate_kind::STRING => print_constant(text, row),
+        predicate_kind::COLUMN => print_number(row.x),
+        predicate_kind::IS => print_null_or_nan(row.y),
         _ => {}
     }
 }

@@ -1,133 +1,133 @@
 // The clauses of a predicate, each with the values that it looks for if it is a lookup.
-use crate::labels::put_value;
-use crate::names::refused;
-use crate::out::counted;
-use crate::out::decimal;
-use crate::out::put;
+use crate::labels::print_value;
+use crate::names::print_refusal;
+use crate::out::print;
+use crate::out::print_count;
+use crate::out::print_decimal;
+use limits::CLAUSES_MAX;
+use limits::LITERALS_MAX;
 use lookup::Found;
 use lookup::Looked;
 use splitter::Listed;
+use widths::u32_to_usize;
 
-const LITERALS: usize = 8192;
-
-const CLAUSES: usize = 1024;
-
-fn entry(a: &[u32], i: usize) -> usize {
-    if i < a.len() { wide(a[i]) } else { 0 }
-}
-
-fn wide(x: u32) -> usize {
-    x as usize
+// Number i of a list, and 0 where there is none.
+fn number_at(list: &[u32], i: usize) -> usize {
+    if i < list.len() {
+        u32_to_usize(list[i])
+    } else {
+        0
+    }
 }
 
 // A literal: an atom's row, plain or negated, and before it an OR if it is not the first.
-fn put_literal(literal: usize, first: bool) {
+fn print_literal(literal: usize, first: bool) {
     if !first {
-        put(b" OR ");
+        print(b" OR ");
     }
     if literal % 2 != 0 {
-        put(b"NOT ");
+        print(b"NOT ");
     }
-    put(b"r");
-    decimal((literal / 2) as u64);
+    print(b"r");
+    print_decimal((literal / 2) as u64);
 }
 
 // The literals from one place up to another.
-fn put_clause(literals: &[u32], from: usize, end: usize) {
+fn print_clause(literals: &[u32], from: usize, end: usize) {
     let mut i = from;
     while i < end {
-        put_literal(entry(literals, i), i == from);
+        print_literal(number_at(literals, i), i == from);
         i += 1;
     }
 }
 
 // Value i of a lookup.
-fn put_found(text: &[u8], rows: &[u64], clause: usize, i: usize) {
+fn print_value_at(text: &[u8], rows: &[u64], clause: usize, i: usize) {
     if 0 < i {
-        put(b", ");
+        print(b", ");
     }
     match lookup::value_at(text, rows, clause, i) {
-        Found::At(v) => put_value(text, v),
-        Found::Refused(_, _) => put(b"?"),
+        Found::At(v) => print_value(text, v),
+        Found::Refused(_, _) => print(b"?"),
     }
 }
 
-fn put_values(text: &[u8], rows: &[u64], clause: usize, count: usize) {
+fn print_values(text: &[u8], rows: &[u64], clause: usize, count: usize) {
     let mut i = 0;
     while i < count {
-        put_found(text, rows, clause, i);
+        print_value_at(text, rows, clause, i);
         i += 1;
     }
 }
 
-fn put_column(column: usize) {
-    put(b"    lookup on column ");
-    decimal(column as u64);
-    put(b": ");
+fn print_column(column: usize) {
+    print(b"    lookup on column ");
+    print_decimal(column as u64);
+    print(b": ");
 }
 
-fn put_none(count: usize) {
+fn print_if_none(count: usize) {
     if count == 0 {
-        put(b"no values");
+        print(b"no values");
     }
 }
 
-fn put_counts(count: usize, total: usize) {
-    put(b"  ");
-    counted(count, b"clause");
-    put(b", ");
-    counted(total, b"literal");
+fn print_counts(count: usize, total: usize) {
+    print(b"  ");
+    print_count(count, b"clause");
+    print(b", ");
+    print_count(total, b"literal");
 }
 
 // What a clause looks for.
-fn put_lookup(text: &[u8], rows: &[u64], clause: usize) {
+fn print_lookup(text: &[u8], rows: &[u64], clause: usize) {
     match lookup::lookup(text, rows, clause) {
         Looked::On(column, count) => {
-            put_column(column);
-            put_none(count);
-            put_values(text, rows, clause, count);
-            put(b"\n");
+            print_column(column);
+            print_if_none(count);
+            print_values(text, rows, clause, count);
+            print(b"\n");
         }
-        Looked::Refused(_, _) => put(b"    no lookup\n"),
+        Looked::Refused(_, _) => print(b"    no lookup\n"),
     }
 }
 
 // Clause k on its line.
-fn put_numbered(literals: &[u32], from: usize, end: usize, k: usize) {
-    put(b"  clause ");
-    decimal(k as u64);
-    put(b": ");
-    put_clause(literals, from, end);
-    put(b"\n");
+fn print_numbered_clause(literals: &[u32], from: usize, end: usize, k: usize) {
+    print(b"  clause ");
+    print_decimal(k as u64);
+    print(b": ");
+    print_clause(literals, from, end);
+    print(b"\n");
 }
 
 // Each clause, and below it what it looks for.
-fn put_clauses(text: &[u8], rows: &[u64], literals: &[u32], ends: &[u32], count: usize) {
+fn print_clauses(text: &[u8], rows: &[u64], literals: &[u32], ends: &[u32], count: usize) {
     let mut from = 0;
     let mut k = 0;
     while k < count {
-        let end = entry(ends, k);
-        put_numbered(literals, from, end, k);
-        put_lookup(text, rows, k);
+        let end = number_at(ends, k);
+        print_numbered_clause(literals, from, end, k);
+        print_lookup(text, rows, k);
         from = end;
         k += 1;
     }
 }
 
-fn list_with(text: &[u8], rows: &[u64], line: u64, literals: &mut [u32], ends: &mut [u32]) {
+fn print_split(text: &[u8], rows: &[u64], line: u64, literals: &mut [u32], ends: &mut [u32]) {
     match splitter::split(text, rows, literals, ends) {
         Listed::Clauses(count, total) => {
-            put_counts(count, total);
-            put(b"\n");
-            put_clauses(text, rows, literals, ends, count);
+            print_counts(count, total);
+            print(b"\n");
+            print_clauses(text, rows, literals, ends, count);
         }
-        Listed::Refused(why, at) => refused(line, why, b"row", at),
+        Listed::Refused(why, at) => print_refusal(line, why, at),
     }
 }
 
 // The clauses of these rows, which stand in this line.
-pub fn list(text: &[u8], rows: &[u64], line: u64) {
-    let mut literals = [0u32; LITERALS];
-    let mut ends = [0u32; CLAUSES];
-    list_with(text, rows, line, &mut literals, &mut ends);
+pub fn print_predicate(text: &[u8], rows: &[u64], line: u64) {
+    let mut literals = [0u32; LITERALS_MAX as usize];
+    let mut ends = [0u32; CLAUSES_MAX as usize];
+    print_split(text, rows, line, &mut literals, &mut ends);
 }

@@ -2,12 +2,14 @@
 //
 // Rows stand in post-order, so a row's operands are the whole subtrees before it. Where each subtree starts is found first, in one pass; then rows are
 // drawn from a stack, on which a drawn row puts its operands, the leftmost on top.
-use crate::labels::predicate_row;
-use crate::labels::syntax_row;
-use crate::out::indent;
-use crate::out::place;
-use crate::out::put;
+use crate::labels::print_predicate_row;
+use crate::labels::print_syntax_row;
+use crate::out::print;
+use crate::out::print_indent;
+use crate::out::print_row_number;
+use limits::ROWS_MAX;
 use lines::scan::one_more;
+use predicate::kind as predicate_kind;
 use rows::Row;
 use syntax::kind;
 ghost use mathlib.Core.Path.{_≡_};
@@ -46,8 +48,10 @@ fn syntax_operands(k: u64, y: u64) -> usize {
 
 fn predicate_operands(k: u64) -> usize {
     match k {
-        1 | 2 | 3 | 4 | 5 | 6 => 0,
-        9 | 13 | 17 | 18 | 20 | 22 => 1,
+        predicate_kind::NULL | predicate_kind::BOOLEAN | predicate_kind::INTEGER => 0,
+        predicate_kind::FLOAT | predicate_kind::STRING | predicate_kind::COLUMN => 0,
+        predicate_kind::NOT | predicate_kind::IS | predicate_kind::FACTORIAL => 1,
+        predicate_kind::IDENTITY | predicate_kind::NEGATE | predicate_kind::SQUARE_ROOT => 1,
         _ => 2,
     }
 }
@@ -59,11 +63,12 @@ fn operands(family: Family, row: Row) -> usize {
     }
 }
 
-fn entry(a: &[usize], i: usize) -> usize {
+// Number i of a list, and 0 where there is none.
+fn number_at(a: &[usize], i: usize) -> usize {
     if i < a.len() { a[i] } else { 0 }
 }
 
-fn keep(a: &mut [usize], i: usize, x: usize)
+fn store(a: &mut [usize], i: usize, x: usize)
     ensures { λ _. ⌜ length (now (a .exit)) ≡ length (now (a .entry)) ⌝ }
 {
     if i < a.len() {
@@ -79,7 +84,7 @@ fn first_row(starts: &[usize], n: usize, operands: usize) -> usize {
         if at == 0 {
             return 0;
         }
-        at = entry(starts, at - 1);
+        at = number_at(starts, at - 1);
         i += 1;
     }
     at
@@ -92,15 +97,15 @@ fn find_starts(family: Family, rows: &[u64], starts: &mut [usize]) {
     while n < count {
         let many = operands(family, row_or_none(rows, n));
         let first = first_row(starts, n, many);
-        keep(starts, n, first);
+        store(starts, n, first);
         n += 1;
     }
 }
 
 // Puts a row on the stack, with its depth.
 fn push(depths: &mut [usize], stack: &mut [usize], top: usize, row: usize, depth: usize) -> usize {
-    keep(depths, row, depth);
-    keep(stack, top, row);
+    store(depths, row, depth);
+    store(stack, top, row);
     one_more(top)
 }
 
@@ -113,7 +118,7 @@ fn push_operands(
     n: usize,
     operands: usize,
 ) -> usize {
-    let depth = one_more(entry(depths, n));
+    let depth = one_more(number_at(depths, n));
     let mut top = height;
     let mut at = n;
     let mut i = 0;
@@ -123,32 +128,32 @@ fn push_operands(
         }
         let root = at - 1;
         top = push(depths, stack, top, root, depth);
-        at = entry(starts, root);
+        at = number_at(starts, root);
         i += 1;
     }
     top
 }
 
 // What stands before a row's name.
-fn margin(n: usize, depth: usize) {
-    put(b"  ");
-    place(n);
-    put(b"  ");
-    indent(depth);
+fn print_margin(n: usize, depth: usize) {
+    print(b"  ");
+    print_row_number(n);
+    print(b"  ");
+    print_indent(depth);
 }
 
-fn label(family: Family, text: &[u8], tokens: &[u32], row: Row) {
+fn print_row(family: Family, text: &[u8], tokens: &[u32], row: Row) {
     match family {
-        Family::Syntax => syntax_row(text, tokens, row),
-        Family::Predicate => predicate_row(text, row),
+        Family::Syntax => print_syntax_row(text, tokens, row),
+        Family::Predicate => print_predicate_row(text, row),
     }
 }
 
 // A row on its line.
 fn draw_row(family: Family, text: &[u8], tokens: &[u32], row: Row, n: usize, depth: usize) {
-    margin(n, depth);
-    label(family, text, tokens, row);
-    put(b"\n");
+    print_margin(n, depth);
+    print_row(family, text, tokens, row);
+    print(b"\n");
 }
 
 // Draws the row on top of the stack and puts its operands there; answers the stack's new height.
@@ -162,9 +167,9 @@ fn draw_top(
     stack: &mut [usize],
     top: usize,
 ) -> usize {
-    let n = entry(stack, top);
+    let n = number_at(stack, top);
     let row = row_or_none(rows, n);
-    let depth = entry(depths, n);
+    let depth = number_at(depths, n);
     draw_row(family, text, tokens, row, n, depth);
     push_operands(starts, depths, stack, top, n, operands(family, row))
 }
@@ -214,15 +219,15 @@ fn draw_with(
         return;
     }
     find_starts(family, rows, starts);
-    keep(stack, 0, count - 1);
+    store(stack, 0, count - 1);
     draw_rows(family, text, tokens, rows, starts, depths, stack);
 }
 
 // The tree of these rows, which are good ones.
 pub fn draw(family: Family, text: &[u8], tokens: &[u32], rows: &[u64]) {
-    let mut starts = [0usize; 2048];
-    let mut depths = [0usize; 2048];
-    let mut stack = [0usize; 2048];
+    let mut starts = [0usize; ROWS_MAX];
+    let mut depths = [0usize; ROWS_MAX];
+    let mut stack = [0usize; ROWS_MAX];
     draw_with(
         family,
         text,

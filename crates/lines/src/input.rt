@@ -50,7 +50,7 @@ fn has_failed(next: Next) -> bool {
 }
 
 // Writes a byte where there is a place for it.
-fn keep(line: &mut [u8], i: usize, b: u8)
+fn store(line: &mut [u8], i: usize, b: u8)
     ensures { λ _. ⌜ length (now (line .exit)) ≡ length (now (line .entry)) ⌝ }
 {
     if i < line.len() {
@@ -82,7 +82,7 @@ pub fn read_line(fd: i32, chunk: &mut [u8], line: &mut [u8], unread: Unread) -> 
                 failed: false,
             };
         }
-        keep(line, n, b);
+        store(line, n, b);
         n = one_more(n);
         left -= 1;
     }

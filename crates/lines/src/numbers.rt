@@ -109,7 +109,7 @@ fn negated(n: Number) -> Number {
     }
 }
 
-fn number_of(word: &[u8]) -> Number {
+fn number_in(word: &[u8]) -> Number {
     if byte(word, 0) == b'-' {
         return negated(digits(word, 1, false));
     }
@@ -122,7 +122,7 @@ fn number_of(word: &[u8]) -> Number {
 }
 
 // Writes a number where there is a place for it.
-pub fn keep(out: &mut [u64], n: usize, value: u64)
+pub fn store(out: &mut [u64], n: usize, value: u64)
     ensures { λ _. ⌜ length (now (out .exit)) ≡ length (now (out .entry)) ⌝ }
 {
     if n < out.len() {
@@ -138,12 +138,12 @@ fn take_word(line: &[u8], start: usize, end: usize, most: u64, out: &mut [u64], 
     if start == end {
         return Taken::All(n);
     }
-    match number_of(&line[start..end]) {
+    match number_in(&line[start..end]) {
         Number::Is(value) => {
             if most < value {
                 return Taken::TooLarge(start, end);
             }
-            keep(out, n, value);
+            store(out, n, value);
             Taken::All(one_more(n))
         }
         Number::TooLarge => Taken::TooLarge(start, end),
@@ -177,8 +177,8 @@ pub fn field(f: &[u64], from: usize, i: usize) -> u64 {
     }
 }
 
-// The numbers from `from` on, in 32 bits each.
-pub fn words(f: &[u64], from: usize, out: &mut [u32])
+// Writes the numbers from `from` on, in 32 bits each.
+pub fn write_u32s(f: &[u64], from: usize, out: &mut [u32])
     ensures { λ _. ⌜ length (now (out .exit)) ≡ length (now (out .entry)) ⌝ }
 {
     let mut i = 0;

@@ -5,6 +5,7 @@ use crate::scan::word_end;
 use crate::scan::word_start;
 use tokens::kind;
 use tokens::table::Token;
+use tokens::table::WIDTH;
 ghost use mathlib.Core.Path.{_≡_};
 ghost use Prim.Native.Nat.{_≤_};
 ghost use lib.ListN.{length};
@@ -20,19 +21,19 @@ fn narrow(x: usize) -> u32 {
 }
 
 // Writes a token where there is room for it; answers how many numbers the table then has.
-fn put_token(table: &mut [u32], n: usize, t: Token) -> usize
+fn push_token(table: &mut [u32], n: usize, t: Token) -> usize
     ensures { λ _. ⌜ length (now (table .exit)) ≡ length (now (table .entry)) ⌝ }
 {
     if table.len() < n {
         return n;
     }
-    if table.len() - n < 3 {
+    if table.len() - n < WIDTH {
         return n;
     }
     table[n] = t.kind;
     table[n + 1] = t.start;
     table[n + 2] = t.length;
-    n + 3
+    n + WIDTH
 }
 
 // The token of a word. The quotes of a String stand outside its span.
@@ -68,7 +69,7 @@ fn take_word(line: &[u8], start: usize, end: usize, table: &mut [u32], n: usize)
         return n;
     }
     let t = token_of(line, start, end);
-    put_token(table, n, t)
+    push_token(table, n, t)
 }
 
 // The tokens of a line from `from` on, as many as there is room for; answers how many numbers they take.

@@ -1,6 +1,6 @@
 // The stored lists as numbers: a line is fields with one space between them, and a field is a decimal number or one letter.
 use lines::numbers::field;
-use lines::numbers::keep;
+use lines::numbers::store;
 ghost use mathlib.Core.Path.{_≡_};
 ghost use Prim.Native.Nat.{_+_, _≤_, _<_, _^_};
 ghost use lib.ListN.{length};
@@ -36,7 +36,7 @@ fn step(out: &mut [u64], so: Open, b: u8) -> Open
     let n = so.count;
     let value = so.value;
     if b == b' ' {
-        keep(out, n, value);
+        store(out, n, value);
         Open {
             count: n + 1,
             value: 0,
@@ -60,7 +60,7 @@ pub fn fields_of(s: &[u8], out: &mut [u64]) -> usize
         i += 1;
     }
     let n = so.count;
-    keep(out, n, so.value);
+    store(out, n, so.value);
     n + 1
 }
 

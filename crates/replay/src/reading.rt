@@ -4,9 +4,10 @@ use crate::fields::bytes;
 use crate::fields::count_at;
 use crate::fields::same;
 use lines::numbers::field;
-use lines::numbers::words;
+use lines::numbers::write_u32s;
 use parser::Parsed;
 use rows::WIDTH;
+use tokens::table::WIDTH as TOKEN_WIDTH;
 ghost use lib.ListN.{length};
 
 const TEXT: usize = 1024;
@@ -69,7 +70,7 @@ fn answer_is(answer: Parsed, rows: &[u64], f: &[u64], at: usize) -> bool {
 fn parse_lent(f: &[u64], text: &mut [u8], tokens: &mut [u32], rows: &mut [u64]) -> bool {
     bytes(f, 2, text);
     let tail = text.len();
-    words(f, tail + 3, tokens);
+    write_u32s(f, tail + 3, tokens);
     let at = tail + 3 + tokens.len();
     let answer = parser::parse(text, tokens, rows);
     answer_is(answer, rows, f, at)
@@ -78,9 +79,9 @@ fn parse_lent(f: &[u64], text: &mut [u8], tokens: &mut [u32], rows: &mut [u64]) 
 // Does the parser answer what is stored?
 pub fn parse_case(f: &[u64]) -> bool {
     let mut text = [0u8; TEXT];
-    let mut tokens = [0u32; TOKENS * 3];
+    let mut tokens = [0u32; TOKENS * TOKEN_WIDTH];
     let mut rows = [BEFORE; ROWS * WIDTH];
     let length = count_at(f, 1, TEXT);
-    let numbers = count_at(f, length + 2, TOKENS) * 3;
+    let numbers = count_at(f, length + 2, TOKENS) * TOKEN_WIDTH;
     parse_lent(f, &mut text[0..length], &mut tokens[0..numbers], &mut rows)
 }

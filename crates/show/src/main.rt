@@ -1,9 +1,9 @@
 // Shows what the library says of each case in a file, or in standard input: a tree, clauses and lookups, or a refusal.
 // README.md describes the form of a case.
-use cases::case;
-use cases::wrong;
-use drawing::out::put;
-use drawing::out::written;
+use cases::print_wrong;
+use cases::show_case;
+use drawing::out::print;
+use drawing::out::try_print;
 use lines::input::Unread;
 use lines::input::read_line;
 use lines::scan::byte;
@@ -18,12 +18,12 @@ fn show_line(line: &[u8], number: u64) -> bool {
     if start == line.len() {
         return true;
     }
-    put(line);
+    print(line);
     if byte(line, start) != b'#' {
-        put(b"\n");
-        case(line, number);
+        print(b"\n");
+        show_case(line, number);
     }
-    written(b"\n")
+    try_print(b"\n")
 }
 
 // A line of so many bytes, of which `line` has those that there are places for.
@@ -31,8 +31,8 @@ fn show_read(line: &[u8], length: usize, number: u64) -> bool {
     if length <= line.len() {
         return show_line(&line[0..length], number);
     }
-    wrong(number, b"longer than 65536 bytes, and left out\n");
-    written(b"\n")
+    print_wrong(number, b"longer than 65536 bytes, and left out\n");
+    try_print(b"\n")
 }
 
 // How it ended: with the last line, or because a read or a write failed.

@@ -12,15 +12,19 @@ use Rattle.tokens.specs.declared.table.Span.{Span}
 use Rattle.tokens.specs.declared.table.Checked.{Checked}
 use Rattle.tokens.specs.declared.table.Checked.the-variants.{Good, Refused}
 
+-- numbers per token
+abbrev pub tokenWidth : ℕ
+tokenWidth = 3
+
 -- how many whole tokens there are
 abbrev pub tokenCount : List ℕ → ℕ
-tokenCount ts = length ts / 3
+tokenCount ts = length ts / tokenWidth
 
 -- token n; past the last one, kind `none` and an empty span
 unfoldable pub tokenAt : List ℕ → ℕ → Token
 tokenAt ts n =
     elim (ltb n (tokenCount ts)) [
-      | true ↦ record { kind = getD ts (n * 3) 0; start = getD ts (n * 3 + 1) 0; length = getD ts (n * 3 + 2) 0 }
+      | true ↦ record { kind = getD ts (n * tokenWidth) 0; start = getD ts (n * tokenWidth + 1) 0; length = getD ts (n * tokenWidth + 2) 0 }
       | false ↦ record { kind = kind.none; start = 0; length = 0 }
     ]
 
@@ -45,14 +49,14 @@ checkFrom text ts n (suc left) =
       | false ↦ Refused BadTable n
     ]
 
--- how many tokens a good table has, or the refusal: a text or a table that is too long, then a length that is no multiple of three, then the
+-- how many tokens a good table has, or the refusal: a text or a table that is too long, then a length that is no multiple of a token's, then the
 -- first token of unknown kind or with a span outside the text
 unfoldable pub checkTable : List ℕ → List ℕ → Checked
 checkTable text ts =
     elim (ltb textMax (length text) || ltb tokensMax (tokenCount ts)) [
       | true ↦ Refused TooLong 0
       | false ↦
-          elim (eqb (length ts % 3) 0) [
+          elim (eqb (length ts % tokenWidth) 0) [
             | true ↦ checkFrom text ts 0 (tokenCount ts)
             | false ↦ Refused BadTable (tokenCount ts)
           ]

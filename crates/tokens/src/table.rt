@@ -8,6 +8,9 @@ ghost use mathlib.Core.Bool.{_&&_};
 ghost use Prim.Native.Nat.{_+_};
 ghost use Rattle.tokens.specs.Token.{tokenCount, tokenAt, kindAt, known as knownOf, fits, checkFrom, checkTable, spanAt, spelled as spelledOf};
 
+// Numbers per token.
+pub const WIDTH: usize = 3;
+
 // A token: its kind, and its span in the text. No token is kind 0 with an empty span.
 pub struct Token {
     pub kind: u32,
@@ -31,15 +34,15 @@ pub enum Checked {
 pub fn count(tokens: &[u32]) -> usize
     ensures { λ r. ⌜ r ≡ tokenCount (now (tokens .entry)) ⌝ }
 {
-    tokens.len() / 3
+    tokens.len() / WIDTH
 }
 
 // Token n, or none.
 fn token_at(tokens: &[u32], n: usize) -> Token
     ensures { λ r. ⌜ r ≡ tokenAt (now (tokens .entry)) n ⌝ }
 {
-    if n < tokens.len() / 3 {
-        let at = n * 3;
+    if n < tokens.len() / WIDTH {
+        let at = n * WIDTH;
         let kind = tokens[at];
         let start = tokens[at + 1];
         let length = tokens[at + 2];
@@ -61,8 +64,8 @@ fn token_at(tokens: &[u32], n: usize) -> Token
 pub fn kind_at(tokens: &[u32], n: usize) -> u32
     ensures { λ r. ⌜ r ≡ kindAt (now (tokens .entry)) n ⌝ }
 {
-    if n < tokens.len() / 3 {
-        tokens[n * 3]
+    if n < tokens.len() / WIDTH {
+        tokens[n * WIDTH]
     } else {
         0
     }
@@ -101,7 +104,7 @@ fn token_good(text: &[u8], tokens: &[u32], n: usize) -> bool
 fn check_tokens(text: &[u8], tokens: &[u32]) -> Checked
     ensures { λ r. ⌜ r ≡ checkFrom (now (text .entry)) (now (tokens .entry)) 0 (tokenCount (now (tokens .entry))) ⌝ }
 {
-    let whole = tokens.len() / 3;
+    let whole = tokens.len() / WIDTH;
     let mut n = 0;
     while n < whole {
         if !token_good(text, tokens, n) {
@@ -116,14 +119,14 @@ fn check_tokens(text: &[u8], tokens: &[u32]) -> Checked
 pub fn check_table(text: &[u8], tokens: &[u32]) -> Checked
     ensures { λ r. ⌜ r ≡ checkTable (now (text .entry)) (now (tokens .entry)) ⌝ }
 {
-    let whole = tokens.len() / 3;
+    let whole = tokens.len() / WIDTH;
     if TEXT_MAX < text.len() {
         return Checked::Refused(Refusal::TooLong, 0);
     }
     if TOKENS_MAX < whole {
         return Checked::Refused(Refusal::TooLong, 0);
     }
-    if tokens.len() % 3 != 0 {
+    if tokens.len() % WIDTH != 0 {
         return Checked::Refused(Refusal::BadTable, whole);
     }
     check_tokens(text, tokens)

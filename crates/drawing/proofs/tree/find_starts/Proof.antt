@@ -27,8 +27,8 @@ operands-requires c κs = search needs
 first-row-requires : tie.Need-first-row-requires Inv-loop μ-loop
 first-row-requires c κs = search needs
 
-keep-requires : tie.Need-keep-requires Inv-loop μ-loop
-keep-requires c κs = search needs
+store-requires : tie.Need-store-requires Inv-loop μ-loop
+store-requires c κs = search needs
 
 add-n : tie.Need-add-n Inv-loop μ-loop
 add-n c = search needs
@@ -56,7 +56,7 @@ find-starts-spec =
     row-or-none-requires
     operands-requires
     first-row-requires
-    keep-requires
+    store-requires
     add-n
     loop-less
     loop-again

@@ -16,11 +16,11 @@ loop-holds c = search needs
 returns : tie.Need-returns Inv-loop μ-loop
 returns c = search needs
 
-sub-entry : tie.Need-sub-entry Inv-loop μ-loop
-sub-entry c = search needs
+sub-number-at : tie.Need-sub-number-at Inv-loop μ-loop
+sub-number-at c = search needs
 
-entry-requires : tie.Need-entry-requires Inv-loop μ-loop
-entry-requires c κs = search needs
+number-at-requires : tie.Need-number-at-requires Inv-loop μ-loop
+number-at-requires c κs = search needs
 
 add-i : tie.Need-add-i Inv-loop μ-loop
 add-i c = search needs
@@ -42,8 +42,8 @@ first-row-spec =
     μ-loop
     loop-holds
     returns
-    sub-entry
-    entry-requires
+    sub-number-at
+    number-at-requires
     add-i
     loop-less
     loop-again

@@ -12,8 +12,8 @@ Inv-loop starts depths₀ stack₀ height n operands depth top₀ at₀ i₀ dep
 abbrev μ-loop : tie.MeasureT-loop
 μ-loop starts depths₀ stack₀ height n operands depth top₀ at₀ i₀ depths stack top at i = operands - i
 
-entry-requires : tie.Need-entry-requires Inv-loop μ-loop
-entry-requires c κs = search needs
+number-at-requires : tie.Need-number-at-requires Inv-loop μ-loop
+number-at-requires c κs = search needs
 
 one-more-requires : tie.Need-one-more-requires Inv-loop μ-loop
 one-more-requires c κs = search needs
@@ -36,8 +36,8 @@ sub-root c = search needs
 push-requires : tie.Need-push-requires Inv-loop μ-loop
 push-requires c κs = search needs
 
-entry-requires-2 : tie.Need-entry-requires-2 Inv-loop μ-loop
-entry-requires-2 c κs = search needs
+number-at-requires-2 : tie.Need-number-at-requires-2 Inv-loop μ-loop
+number-at-requires-2 c κs = search needs
 
 add-i : tie.Need-add-i Inv-loop μ-loop
 add-i c = search needs
@@ -63,7 +63,7 @@ push-operands-spec =
     (tie.spec
     Inv-loop
     μ-loop
-    entry-requires
+    number-at-requires
     one-more-requires
     loop-holds
     same-length
@@ -71,7 +71,7 @@ push-operands-spec =
     returns
     sub-root
     push-requires
-    entry-requires-2
+    number-at-requires-2
     add-i
     loop-less
     loop-again

@@ -41,8 +41,8 @@ same-length-4 c = search needs
 returns-2 : tie.Need-returns-2 Inv-loop μ-loop
 returns-2 c = search needs
 
-keep-requires : tie.Need-keep-requires Inv-loop μ-loop
-keep-requires c κs = search needs
+store-requires : tie.Need-store-requires Inv-loop μ-loop
+store-requires c κs = search needs
 
 one-more-requires : tie.Need-one-more-requires Inv-loop μ-loop
 one-more-requires c κs = search needs
@@ -81,7 +81,7 @@ read-line-spec =
     same-length-3
     same-length-4
     returns-2
-    keep-requires
+    store-requires
     one-more-requires
     sub-left
     loop-less

@@ -1,8 +1,8 @@
--- `listing::put_values` is safe and ends. The loop counts the values, and those that are left fall. Assumes nothing.
+-- `listing::print_values` is safe and ends. The loop counts the values, and those that are left fall. Assumes nothing.
 use Prim.Native.Nat.{_-_, _≤_}
 use borrow.Author.Needs.{needs}
-use Rattle.drawing.proofs.listing.put_values.Statement.{statement}
-use Rattle.drawing.proofs.listing.put_values.Tie as tie
+use Rattle.drawing.proofs.listing.print_values.Statement.{statement}
+use Rattle.drawing.proofs.listing.print_values.Tie as tie
 
 abbrev Inv-loop : tie.InvT-loop
 Inv-loop text rows clause count i₀ i = i ≤ count
@@ -13,8 +13,8 @@ abbrev μ-loop : tie.MeasureT-loop
 loop-holds : tie.Need-loop-holds Inv-loop μ-loop
 loop-holds c = search needs
 
-put-found-requires : tie.Need-put-found-requires Inv-loop μ-loop
-put-found-requires c κs = search needs
+print-value-at-requires : tie.Need-print-value-at-requires Inv-loop μ-loop
+print-value-at-requires c κs = search needs
 
 add-i : tie.Need-add-i Inv-loop μ-loop
 add-i c = search needs
@@ -28,7 +28,7 @@ loop-again c = search needs
 returns : tie.Need-returns Inv-loop μ-loop
 returns c = search needs
 
-pub put-values-spec : {M : Type 1} → statement M
-put-values-spec =
+pub print-values-spec : {M : Type 1} → statement M
+print-values-spec =
     tie.close
-    (tie.spec Inv-loop μ-loop loop-holds put-found-requires add-i loop-less loop-again returns)
+    (tie.spec Inv-loop μ-loop loop-holds print-value-at-requires add-i loop-less loop-again returns)

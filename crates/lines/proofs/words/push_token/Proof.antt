@@ -2,8 +2,8 @@
 use lib.ListN.{length-set}
 use native.Mathlib.Omega.{arith}
 use borrow.Author.Needs.{needs}
-use Rattle.lines.proofs.words.put_token.Statement.{statement}
-use Rattle.lines.proofs.words.put_token.Tie as tie
+use Rattle.lines.proofs.words.push_token.Statement.{statement}
+use Rattle.lines.proofs.words.push_token.Tie as tie
 
 returns : tie.Need-returns
 returns c = search needs
@@ -47,8 +47,8 @@ same-length c = search needs
 returns-3 : tie.Need-returns-3
 returns-3 c = search needs
 
-pub put-token-spec : {M : Type 1} → statement M
-put-token-spec =
+pub push-token-spec : {M : Type 1} → statement M
+push-token-spec =
     tie.close
     (tie.spec
     returns

@@ -1,9 +1,9 @@
--- `out::put_part` is safe and ends. Each turn ends past a part, so there are at most as many parts as bytes passed, and what is left of the list falls. Assumes nothing.
+-- `out::print_part` is safe and ends. Each turn ends past a part, so there are at most as many parts as bytes passed, and what is left of the list falls. Assumes nothing.
 use Prim.Native.Nat.{suc, _-_, _≤_}
 use lib.ListN.{length}
 use borrow.Author.Needs.{needs}
-use Rattle.drawing.proofs.out.put_part.Statement.{statement}
-use Rattle.drawing.proofs.out.put_part.Tie as tie
+use Rattle.drawing.proofs.out.print_part.Statement.{statement}
+use Rattle.drawing.proofs.out.print_part.Tie as tie
 
 abbrev Inv-loop : tie.InvT-loop
 Inv-loop list between n at₀ i₀ at i = i ≤ at
@@ -17,17 +17,17 @@ loop-holds c = search needs
 until-requires : tie.Need-until-requires Inv-loop μ-loop
 until-requires c κs = search needs
 
-sub-put : tie.Need-sub-put Inv-loop μ-loop
-sub-put c = search needs
+sub-print : tie.Need-sub-print Inv-loop μ-loop
+sub-print c = search needs
 
-part-put-start : tie.Need-part-put-start Inv-loop μ-loop
-part-put-start c = search needs
+part-print-start : tie.Need-part-print-start Inv-loop μ-loop
+part-print-start c = search needs
 
-part-put-end : tie.Need-part-put-end Inv-loop μ-loop
-part-put-end c = search needs
+part-print-end : tie.Need-part-print-end Inv-loop μ-loop
+part-print-end c = search needs
 
-put-requires : tie.Need-put-requires Inv-loop μ-loop
-put-requires c κs = search needs
+print-requires : tie.Need-print-requires Inv-loop μ-loop
+print-requires c κs = search needs
 
 returns : tie.Need-returns Inv-loop μ-loop
 returns c = search needs
@@ -47,18 +47,18 @@ loop-again c = search needs
 returns-2 : tie.Need-returns-2 Inv-loop μ-loop
 returns-2 c = search needs
 
-pub put-part-spec : {M : Type 1} → statement M
-put-part-spec =
+pub print-part-spec : {M : Type 1} → statement M
+print-part-spec =
     tie.close
     (tie.spec
     Inv-loop
     μ-loop
     loop-holds
     until-requires
-    sub-put
-    part-put-start
-    part-put-end
-    put-requires
+    sub-print
+    part-print-start
+    part-print-end
+    print-requires
     returns
     add-i
     add-at

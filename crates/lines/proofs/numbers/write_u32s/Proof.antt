@@ -1,11 +1,11 @@
--- `numbers::words` is safe: the index is below the length, which a write keeps.
+-- `numbers::write_u32s` is safe: the index is below the length, which a write keeps.
 -- Assumes nothing.
 use Prim.Native.Nat.{_-_, _≤_}
 use lib.ListN.{length, length-set}
 use mathlib.Core.Path.{_≡_}
 use borrow.Author.Needs.{needs}
-use Rattle.lines.proofs.numbers.words.Statement.{statement}
-use Rattle.lines.proofs.numbers.words.Tie as tie
+use Rattle.lines.proofs.numbers.write_u32s.Statement.{statement}
+use Rattle.lines.proofs.numbers.write_u32s.Tie as tie
 
 abbrev Inv-loop : tie.InvT-loop
 Inv-loop f from out₀ i₀ out i = (i ≤ length out₀) × (length out ≡ length out₀)
@@ -43,8 +43,8 @@ same-length c = search needs
 returns : tie.Need-returns Inv-loop μ-loop
 returns c = search needs
 
-pub words-spec : {M : Type 1} → statement M
-words-spec =
+pub write-u32s-spec : {M : Type 1} → statement M
+write-u32s-spec =
     tie.close
     (tie.spec
     Inv-loop
