@@ -23,7 +23,10 @@ token-good-requires : tie.Need-token-good-requires Inv-loop μ-loop
 token-good-requires c κs = search needs
 
 returns : tie.Need-returns Inv-loop μ-loop
-returns c = check-off _ _ _ (c .before .before .before .loop .inv .0) (search needs) (sym (c .before .token-good .ensures) ∙ not-true (c .before .token-good .result) (c .if1 .taken))
+returns c =
+    let loop = c .before .before .before .loop in
+    let token-good = c .before .token-good in
+    check-off _ _ _ (loop .inv .0) (search needs) (sym (token-good .ensures) ∙ not-true (token-good .result) (c .if1 .taken))
 
 add-n : tie.Need-add-n Inv-loop μ-loop
 add-n c = omega arith
@@ -32,7 +35,10 @@ loop-less : tie.Need-loop-less Inv-loop μ-loop
 loop-less c = omega arith
 
 loop-again : tie.Need-loop-again Inv-loop μ-loop
-loop-again c = (check-on _ _ _ (c .before .before .before .loop .inv .0) (search needs) (sym (c .before .token-good .ensures) ∙ not-false (c .before .token-good .result) (c .if1 .left)), refl)
+loop-again c =
+    let loop = c .before .before .before .loop in
+    let token-good = c .before .token-good in
+    (check-on _ _ _ (loop .inv .0) (search needs) (sym (token-good .ensures) ∙ not-false (token-good .result) (c .if1 .left)), refl)
 
 returns-2 : tie.Need-returns-2 Inv-loop μ-loop
 returns-2 c = check-ends _ _ _ (c .before .loop .inv .0) (search needs)

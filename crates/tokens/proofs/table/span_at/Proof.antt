@@ -19,10 +19,14 @@ span-fits-requires : tie.Need-span-fits-requires
 span-fits-requires c κs = search needs
 
 returns : tie.Need-returns
-returns c = span-there _ _ _ (c .before .before .before .before .token-at .result) (c .before .before .before .before .token-at .ensures) (sym (c .before .span-fits .ensures) ∙ c .if1 .taken)
+returns c =
+    let token-at = c .before .before .before .before .token-at in
+    span-there _ _ _ (token-at .result) (token-at .ensures) (sym (c .before .span-fits .ensures) ∙ c .if1 .taken)
 
 returns-2 : tie.Need-returns-2
-returns-2 c = span-none _ _ _ (c .before .before .before .before .token-at .result) (c .before .before .before .before .token-at .ensures) (sym (c .before .span-fits .ensures) ∙ c .if1 .left)
+returns-2 c =
+    let token-at = c .before .before .before .before .token-at in
+    span-none _ _ _ (token-at .result) (token-at .ensures) (sym (c .before .span-fits .ensures) ∙ c .if1 .left)
 
 pub span-at-spec : {M : Type 1} → statement M
 span-at-spec =

@@ -13,7 +13,9 @@ span-at-requires : tie.Need-span-at-requires
 span-at-requires c κs = search needs
 
 add-end : tie.Need-add-end
-add-end c = omega (arith, part-in _ _ _ (c .before .span-at .result) (c .before .span-at .ensures))
+add-end c =
+    let span-at = c .before .span-at in
+    omega (arith, part-in _ _ _ (span-at .result) (span-at .ensures))
 
 sub-result : tie.Need-sub-result
 sub-result c = search needs
@@ -22,10 +24,15 @@ part-result-start : tie.Need-part-result-start
 part-result-start c = search needs
 
 part-result-end : tie.Need-part-result-end
-part-result-end c = omega (arith, part-in _ _ _ (c .before .span-at .result) (c .before .span-at .ensures))
+part-result-end c =
+    let span-at = c .before .span-at in
+    omega (arith, part-in _ _ _ (span-at .result) (span-at .ensures))
 
 returns : tie.Need-returns
-returns c = (part-there _ _ _ (c .before .before .span-at .result) (c .before .before .span-at .ensures), (refl, ap (λ (s : Span). s .start + c .before .before .before .before .before .args .text .ptr .1) (c .before .before .span-at .ensures)))
+returns c =
+    let args = c .before .before .before .before .before .args in
+    let span-at = c .before .before .span-at in
+    (part-there _ _ _ (span-at .result) (span-at .ensures), (refl, ap (λ (s : Span). s .start + args .text .ptr .1) (span-at .ensures)))
 
 pub spelled-spec : {M : Type 1} → statement M
 spelled-spec =

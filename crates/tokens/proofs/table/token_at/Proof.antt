@@ -34,7 +34,9 @@ shared-slice-read-length : tie.Need-shared-slice-read-length
 shared-slice-read-length c = search needs
 
 returns : tie.Need-returns
-returns c = sym (there _ _ (c .before .before .before .if1 .taken))
+returns c =
+    let if1 = c .before .before .before .if1 in
+    sym (there _ _ (if1 .taken))
 
 returns-2 : tie.Need-returns-2
 returns-2 c = sym (missing _ _ (c .if1 .left))

@@ -16,11 +16,16 @@ span-fits-requires c κs = search needs
 
 returns : tie.Need-returns
 unfolding kindAt
-returns c = rw (kindAt, ← c .before .before .before .token-at .ensures, ← c .before .before .known .ensures, c .before .if1 .taken) (c .span-fits .ensures)
+returns c =
+    let token-at = c .before .before .before .token-at in
+    let known = c .before .before .known in
+    rw (kindAt, ← token-at .ensures, ← known .ensures, c .before .if1 .taken) (c .span-fits .ensures)
 
 returns-2 : tie.Need-returns-2
 unfolding kindAt
-returns-2 c = rw (kindAt, ← c .before .before .token-at .ensures, ← c .before .known .ensures, c .if1 .left)
+returns-2 c =
+    let token-at = c .before .before .token-at in
+    rw (kindAt, ← token-at .ensures, ← c .before .known .ensures, c .if1 .left)
 
 pub token-good-spec : {M : Type 1} → statement M
 token-good-spec =
