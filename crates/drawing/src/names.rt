@@ -3,11 +3,17 @@ use crate::out::print;
 use crate::out::print_decimal;
 use crate::out::print_line_number;
 use crate::out::print_part;
+use lines::scan::byte;
+use lines::scan::until;
+use lines::scan::word_end;
+use lines::scan::word_start;
 use refusals::Refusal;
 
 pub fn print_syntax_kind(kind: u64) {
     print_part(
-        b"? All Integer Float Infinity NaN String Boolean Null Column Column Function Identity Negate Not Factorial Is And Or Equal NotEqual GreaterThan GreaterThanOrEqual LessThan LessThanOrEqual Like Add Subtract Multiply Divide Remainder Exponentiate",
+        b"? All Integer Float Infinity NaN String Boolean Null Column Column Function Identity Negate Not Factorial Is \
+          And Or Equal NotEqual GreaterThan GreaterThanOrEqual LessThan LessThanOrEqual Like Add Subtract Multiply \
+          Divide Remainder Exponentiate",
         b' ',
         kind as usize,
     );
@@ -15,122 +21,80 @@ pub fn print_syntax_kind(kind: u64) {
 
 pub fn print_predicate_kind(kind: u64) {
     print_part(
-        b"? Null Boolean Integer Float String Column And Or Not Equal GreaterThan LessThan Is Add Divide Exponentiate Factorial Identity Multiply Negate Remainder SquareRoot Subtract Like",
+        b"? Null Boolean Integer Float String Column And Or Not Equal GreaterThan LessThan Is Add Divide Exponentiate \
+          Factorial Identity Multiply Negate Remainder SquareRoot Subtract Like",
         b' ',
         kind as usize,
     );
 }
 
-// Prints where a refusal is, if its place counts something.
-fn print_place(counts: &[u8], place: usize) {
-    if counts.len() == 0 {
-        return;
-    }
-    print(b" at ");
-    print(counts);
-    print(b" ");
-    print_decimal(place as u64);
-}
-
-// Prints a line of the table: the refusal's name and number, its place, and what it means.
-fn print_entry(name: &[u8], number: u32, counts: &[u8], place: usize, meaning: &[u8]) {
-    print(name);
+// Prints the entry of refusal n, up to what it means, and its place if that counts something.
+fn print_entry(entry: &[u8], n: u32, place: usize) {
+    let name = word_end(entry, 0);
+    let counts = word_start(entry, name);
+    let counted = word_end(entry, counts);
+    print(&entry[0..name]);
     print(b" (");
-    print_decimal(number as u64);
+    print_decimal(n as u64);
     print(b")");
-    print_place(counts, place);
-    print(b": ");
-    print(meaning);
+    if byte(entry, counts) != b'-' {
+        print(b" at ");
+        print(&entry[counts..counted]);
+        print(b" ");
+        print_decimal(place as u64);
+    }
+    print(b":");
+    print(&entry[counted..]);
     print(b"\n");
 }
 
-// Prints a refusal. The table: its name, what its place counts, and what it means, a line each.
-pub fn print_refusal(line: u64, why: Refusal, at: usize) {
-    print_line_number(line);
-    let n = refusals::number_of(why);
-    match why {
-        Refusal::TooLong => print_entry(
-            b"TOO_LONG",
-            n,
-            b"",
-            at,
-            b"more than 16384 bytes of text, 4096 tokens or 2048 rows",
-        ),
-        Refusal::BadTable => print_entry(
-            b"BAD_TABLE",
-            n,
-            b"token",
-            at,
-            b"a token that is of no kind, outside the text or cut short",
-        ),
-        Refusal::End => print_entry(
-            b"END",
-            n,
-            b"token",
-            at,
-            b"something is missing after the last token",
-        ),
-        Refusal::NoAtom => print_entry(
-            b"NO_ATOM",
-            n,
-            b"token",
-            at,
-            b"no operand starts with this token",
-        ),
-        Refusal::NeedClose => print_entry(
-            b"WRONG_TOKEN",
-            n,
-            b"token",
-            at,
-            b"another token is needed here",
-        ),
-        Refusal::NeedComma => print_entry(
-            b"WRONG_TOKEN",
-            n,
-            b"token",
-            at,
-            b"another token is needed here",
-        ),
-        Refusal::NeedName => print_entry(
-            b"WRONG_TOKEN",
-            n,
-            b"token",
-            at,
-            b"another token is needed here",
-        ),
-        Refusal::NeedNullOrNan => print_entry(
-            b"WRONG_TOKEN",
-            n,
-            b"token",
-            at,
-            b"another token is needed here",
-        ),
-        Refusal::LeftOver => print_entry(
-            b"LEFT_OVER",
-            n,
-            b"token",
-            at,
-            b"the expression has ended before this token",
-        ),
-        Refusal::BadNumber => print_entry(
-            b"BAD_NUMBER",
-            n,
-            b"token",
-            at,
-            b"not a number, or one above 9223372036854775807",
-        ),
-        Refusal::TooDeep => print_entry(b"TOO_DEEP", n, b"token", at, b"more than 64 levels"),
-        Refusal::NoRoom => print_entry(b"NO_ROOM", n, b"token", at, b"more than 2048 rows"),
-        Refusal::BadTree => print_entry(b"BAD_TREE", n, b"row", at, b"not the rows of one tree"),
-        Refusal::TooMany => print_entry(
-            b"TOO_MANY",
-            n,
-            b"",
-            at,
-            b"more than 1024 clauses or 8192 literals",
-        ),
-        Refusal::NoList => print_entry(b"NO_LIST", n, b"", at, b"a list is too short"),
-        Refusal::NotLookup => print_entry(b"NOT_LOOKUP", n, b"", at, b"not a lookup"),
-        Refusal::NoSuch => print_entry(b"NO_SUCH", n, b"", at, b"no such clause or value"),
+// Does an entry of the table begin with this number, in two digits?
+fn has_number(table: &[u8], at: usize, n: u32) -> bool {
+    let digits = n % 100;
+    if byte(table, at) != b'0' + (digits / 10) as u8 {
+        return false;
     }
+    if table.len() <= at {
+        return false;
+    }
+    byte(table, at + 1) == b'0' + (digits % 10) as u8
+}
+
+// Prints the entry of refusal n from a table with `|` between its entries.
+fn print_entry_of(table: &[u8], n: u32, place: usize) {
+    let mut at = 0;
+    while at < table.len() {
+        let end = until(table, at, b'|');
+        let name = word_start(table, word_end(table, at));
+        if has_number(table, at, n) {
+            if name <= end {
+                print_entry(&table[name..end], n, place);
+            }
+            return;
+        }
+        at = end + 1;
+    }
+}
+
+// Prints a refusal. In the table: its number, its name, what its place counts, and what it means.
+pub fn print_refusal(line: u64, why: Refusal, place: usize) {
+    print_line_number(line);
+    print_entry_of(
+        b"01 TOO_LONG - more than 16384 bytes of text, 4096 tokens or 2048 rows|\
+          02 BAD_TABLE token a token that is of no kind, outside the text or cut short|\
+          03 END token something is missing after the last token|\
+          04 NO_ATOM token no operand starts with this token|\
+          05 WRONG_TOKEN token another token is needed here|\
+          06 LEFT_OVER token the expression has ended before this token|\
+          07 BAD_NUMBER token not a number, or one above 9223372036854775807|\
+          08 TOO_DEEP token more than 64 levels|\
+          09 NO_ROOM token more than 2048 rows|\
+          10 BAD_TREE row not the rows of one tree|\
+          11 TOO_MANY - more than 1024 clauses or 8192 literals|\
+          12 NO_LIST - a list is too short|\
+          13 NOT_LOOKUP - not a lookup|\
+          14 NO_SUCH - no such clause or value",
+        refusals::number_of(why),
+        place,
+    );
 }

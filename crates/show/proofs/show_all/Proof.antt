@@ -1,4 +1,5 @@
--- `show_all` is safe and ends. Nothing says that the input ends, so the lines are counted up to the largest number; both buffers keep their lengths. Assumes nothing.
+-- `show_all` is safe and ends. Nothing says that the input ends, so the lines are counted up to the largest number; both buffers keep their lengths.
+-- Assumes nothing.
 use Prim.Native.Nat.{_-_}
 use lib.ListN.{length}
 use mathlib.Core.Path.{_≡_}

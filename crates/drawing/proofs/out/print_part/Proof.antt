@@ -1,4 +1,5 @@
--- `out::print_part` is safe and ends. Each turn ends past a part, so there are at most as many parts as bytes passed, and what is left of the list falls. Assumes nothing.
+-- `out::print_part` is safe and ends. Each turn ends past a part, so there are at most as many parts as bytes passed, and what is left of the list falls.
+-- Assumes nothing.
 use Prim.Native.Nat.{suc, _-_, _≤_}
 use lib.ListN.{length}
 use borrow.Author.Needs.{needs}

@@ -7,7 +7,8 @@ use Rattle.drawing.proofs.tree.draw_rows.Statement.{statement}
 use Rattle.drawing.proofs.tree.draw_rows.Tie as tie
 
 abbrev Inv-loop : tie.InvT-loop
-Inv-loop family text tokens rows starts depths₀ stack₀ count height₀ i₀ depths stack height i = (i ≤ count) × (length depths ≡ length depths₀) × (length stack ≡ length stack₀)
+Inv-loop family text tokens rows starts depths₀ stack₀ count height₀ i₀ depths stack height i =
+    (i ≤ count) × (length depths ≡ length depths₀) × (length stack ≡ length stack₀)
 
 abbrev μ-loop : tie.MeasureT-loop
 μ-loop family text tokens rows starts depths₀ stack₀ count height₀ i₀ depths stack height i = count - i

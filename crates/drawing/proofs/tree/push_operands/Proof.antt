@@ -1,4 +1,5 @@
--- `tree::push_operands` is safe and ends. The loop counts the operands, and those that are left fall; both tables keep their lengths. Assumes nothing.
+-- `tree::push_operands` is safe and ends. The loop counts the operands, and those that are left fall; both tables keep their lengths.
+-- Assumes nothing.
 use Prim.Native.Nat.{_-_, _≤_}
 use lib.ListN.{length}
 use mathlib.Core.Path.{_≡_}
@@ -7,7 +8,8 @@ use Rattle.drawing.proofs.tree.push_operands.Statement.{statement}
 use Rattle.drawing.proofs.tree.push_operands.Tie as tie
 
 abbrev Inv-loop : tie.InvT-loop
-Inv-loop starts depths₀ stack₀ height n operands depth top₀ at₀ i₀ depths stack top at i = (i ≤ operands) × (length depths ≡ length depths₀) × (length stack ≡ length stack₀)
+Inv-loop starts depths₀ stack₀ height n operands depth top₀ at₀ i₀ depths stack top at i =
+    (i ≤ operands) × (length depths ≡ length depths₀) × (length stack ≡ length stack₀)
 
 abbrev μ-loop : tie.MeasureT-loop
 μ-loop starts depths₀ stack₀ height n operands depth top₀ at₀ i₀ depths stack top at i = operands - i

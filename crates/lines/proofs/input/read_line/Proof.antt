@@ -1,4 +1,5 @@
--- `input::read_line` is safe and ends. Nothing says that the input ends, so the bytes that may still be read are counted down; both buffers keep their lengths. Assumes nothing.
+-- `input::read_line` is safe and ends. Nothing says that the input ends, so the bytes that may still be read are counted down; both buffers keep their lengths.
+-- Assumes nothing.
 use lib.ListN.{length}
 use mathlib.Core.Path.{_≡_}
 use borrow.Author.Needs.{needs}

@@ -1,4 +1,5 @@
--- `numbers::numbers_of` is safe and ends. Each turn ends past the word that it took, so what is left of the line falls; the numbers keep their places. Assumes nothing.
+-- `numbers::numbers_of` is safe and ends. Each turn ends past the word that it took, so what is left of the line falls; the numbers keep their places.
+-- Assumes nothing.
 use Prim.Native.Nat.{suc, _-_}
 use lib.ListN.{length}
 use mathlib.Core.Path.{_≡_}

@@ -1,4 +1,5 @@
--- `scan::find` is safe and ends. Each turn ends past a word, so there are at most as many words as bytes passed, and what is left of the list falls. Assumes nothing.
+-- `scan::find` is safe and ends. Each turn ends past a word, so there are at most as many words as bytes passed, and what is left of the list falls.
+-- Assumes nothing.
 use Prim.Native.Nat.{suc, _-_, _≤_}
 use lib.ListN.{length}
 use borrow.Author.Needs.{needs}

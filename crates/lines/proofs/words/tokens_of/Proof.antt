@@ -1,4 +1,5 @@
--- `words::tokens_of` is safe and ends. Each turn ends past the word that it took, so what is left of the line falls; the table keeps its length. Assumes nothing.
+-- `words::tokens_of` is safe and ends. Each turn ends past the word that it took, so what is left of the line falls; the table keeps its length.
+-- Assumes nothing.
 use Prim.Native.Nat.{suc, _-_}
 use lib.ListN.{length}
 use mathlib.Core.Path.{_≡_}
