@@ -1,4 +1,4 @@
-//! Finds the static library, links it, and says which entries it has.
+//! Finds the static library and links it.
 
 use std::path::{Path, PathBuf};
 
@@ -11,19 +11,6 @@ fn folder() -> PathBuf {
     let here = std::env::var("CARGO_MANIFEST_DIR").expect("cargo names the crate's folder");
     let named = std::env::var_os("FONTRISC_LIB").unwrap_or_else(|| "target/staticlib".into());
     Path::new(&here).join("../..").join(named)
-}
-
-/// The entries, for the build scripts of the crates that use this one.
-fn entries() -> String {
-    let has = |feature: &str| std::env::var_os(format!("CARGO_FEATURE_{feature}")).is_some();
-    let mut entries = vec!["parse", "spelled"];
-    if has("SPLIT") {
-        entries.push("split");
-    }
-    if has("LOOKUP") {
-        entries.push("lookup");
-    }
-    entries.join(",")
 }
 
 fn main() {
@@ -43,5 +30,4 @@ fn main() {
     println!("cargo::rustc-link-search=native={}", folder.display());
     println!("cargo::rustc-link-lib=static=fontrisc");
     println!("cargo::rustc-env=FONTRISC_LIB_FOLDER={}", folder.display());
-    println!("cargo::metadata=entries={}", entries());
 }

@@ -1,11 +1,11 @@
-//! Finds the sources that the oracle includes and hands their folder on.
+//! Finds the original's sources and hands their folder on.
 
 use std::path::{Path, PathBuf};
 
 /// Where the sources stand if `TOYDB_SRC` is not set, seen from the repository.
 const DEFAULT: &str = "../shared/docs/src";
 
-/// The two files that are included.
+/// The two files of the original that are compiled.
 const FILES: [&str; 2] = ["src/sql/parser/parser.rs", "src/sql/types/expression.rs"];
 
 /// The repository root: two folders above this crate.

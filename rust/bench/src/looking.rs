@@ -4,6 +4,7 @@
 use crate::clock::{best, head, nanoseconds, ratio, row, shown};
 use crate::shapes::{AND, OR, Rows, rows};
 use oracle::expression::tree_of;
+use oracle::layout::row_count;
 use oracle::sql::types::Expression;
 use std::hint::black_box;
 
@@ -63,7 +64,7 @@ pub fn table() {
 fn measure(rows: &[u64], clause: usize, clauses: usize) {
     let looked = fontrisc::lookup(b"", rows, clause).expect("the clause is a lookup");
     let column = usize::from(looked.column);
-    let count = rows.len() / 3;
+    let count = row_count(rows);
     let tree = tree_of(b"", rows);
     let alone = tree.clone().into_cnf_vec().swap_remove(clause);
     let say = |what: &str, times: [f64; 3]| {
@@ -87,7 +88,7 @@ fn measure(rows: &[u64], clause: usize, clauses: usize) {
 /// The times of one `lookup`: the library's, the original's with splitting and
 /// alone.
 fn lookup_times(rows: &[u64], clause: usize, tree: &Expression, alone: &Expression) -> [f64; 3] {
-    let count = rows.len() / 3;
+    let count = row_count(rows);
     let split = |tree: Expression| tree.into_cnf_vec()[black_box(clause)].is_column_lookup();
     best([
         &mut || {
@@ -107,7 +108,7 @@ fn value_times(
     alone: &Expression,
     column: usize,
 ) -> [f64; 3] {
-    let count = rows.len() / 3;
+    let count = row_count(rows);
     let split = |tree: Expression| {
         let clause = tree.into_cnf_vec().swap_remove(black_box(clause));
         values(clause, column).is_some()

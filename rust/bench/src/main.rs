@@ -3,11 +3,9 @@
 //! `bench stack`: how much stack the library's calls need.
 
 mod clock;
-#[cfg(lookup)]
 mod looking;
 mod reading;
 mod shapes;
-#[cfg(split)]
 mod splitting;
 mod stack;
 
@@ -15,17 +13,12 @@ use std::process::ExitCode;
 
 /// Prints a table of times, or all of them; false if there is no such table.
 fn tables(which: Option<&str>) -> bool {
-    let all: &[(&str, fn())] = &[
-        ("parse", reading::table),
-        #[cfg(split)]
-        ("split", splitting::table),
-        #[cfg(lookup)]
-        ("lookup", looking::table),
-    ];
+    let all: &[(&str, fn())] =
+        &[("parse", reading::table), ("split", splitting::table), ("lookup", looking::table)];
     let asked = |name: &str| which.is_none_or(|which| which == name);
     let chosen: Vec<_> = all.iter().filter(|(name, _)| asked(name)).collect();
     // The original recurses as deep as its trees are, when it frees them too.
-    oracle::deep(|| chosen.iter().for_each(|(_, table)| table()));
+    oracle::on_large_stack(|| chosen.iter().for_each(|(_, table)| table()));
     !chosen.is_empty()
 }
 
@@ -41,6 +34,6 @@ fn main() -> ExitCode {
     if printed {
         return ExitCode::SUCCESS;
     }
-    eprintln!("usage: bench [parse | split | lookup | stack], as far as the library has them");
+    eprintln!("usage: bench [parse | split | lookup | stack]");
     ExitCode::from(2)
 }

@@ -1,7 +1,9 @@
 //! The times of `parse` beside those of the original's parser.
 
 use crate::clock::{best, head, nanoseconds, ratio, row, shown};
+use fontrisc::{ROW_WIDTH, limit};
 use oracle::cases::{Tokens, words};
+use oracle::layout::token_count;
 use oracle::parser::{tokens_of, tree_of_given, tree_of_lent};
 use std::hint::black_box;
 
@@ -10,8 +12,8 @@ const NOTES: &str = "\
 ## parse
 
 Times are for one call, the best of many batches. Both sides get the same token
-lists, made beforehand. The library writes into a table of 6,144 numbers that is
-lent again and again and not cleared in between.
+lists, made beforehand. The library writes into a table of 2,048 rows that is lent
+again and again and not cleared in between.
 
 The original hands its parser a copy of each token, with the token's string where
 it has one, as its lexer makes a string for each, and its tree is freed: both are
@@ -72,8 +74,8 @@ pub fn table() {
     }
     println!("\nA refusal clears the table that was lent, so its length counts:\n");
     head(&["refused", "numbers in the table", "library"]);
-    for numbers in [12, 96, 3 * fontrisc::limit::ROWS] {
-        measure_refused("a = 1 AND", numbers);
+    for rows in [4, 32, limit::ROWS] {
+        measure_refused("a = 1 AND", ROW_WIDTH * rows);
     }
     println!();
 }
@@ -91,8 +93,8 @@ fn measure_refused(line: &str, numbers: usize) {
 
 /// Prints the row of one token list.
 fn measure(name: &str, made: &Tokens) {
-    let count = made.tokens.len() / 3;
-    let mut rows = vec![0; 3 * fontrisc::limit::ROWS];
+    let count = token_count(&made.tokens);
+    let mut rows = vec![0; ROW_WIDTH * limit::ROWS];
     let (text, tokens) = (&made.text[..], &made.tokens[..]);
     fontrisc::parse(text, tokens, &mut rows).expect("the list is a good one");
     let ready = tokens_of(text, tokens);

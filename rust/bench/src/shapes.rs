@@ -1,13 +1,12 @@
 //! Predicate rows in the shapes that are measured.
 
-pub use fontrisc::predicate::{AND, COLUMN, NOT, OR};
-
-/// A row.
-pub type Row = [u64; 3];
+pub use fontrisc::predicate::{AND, NOT, OR};
+use fontrisc::predicate::{COLUMN, EQUAL, INTEGER};
+use oracle::layout::{Row, table_of};
 
 /// A predicate under construction: complete subtrees one after another.
-#[derive(Clone, Default)]
-pub struct Rows(pub Vec<Row>);
+#[derive(Default)]
+pub struct Rows(Vec<Row>);
 
 impl Rows {
     /// The last row's number.
@@ -15,33 +14,31 @@ impl Rows {
         self.0.len() as u64 - 1
     }
 
-    /// Adds a column.
-    pub fn column(&mut self, number: u64) -> u64 {
-        self.0.push([COLUMN, number, 0]);
+    /// Adds a row and answers its number.
+    fn push(&mut self, kind: u64, x: u64, y: u64) -> u64 {
+        self.0.push(Row::new(kind, x, y));
         self.last()
     }
 
+    /// Adds a column.
+    pub fn column(&mut self, number: u64) -> u64 {
+        self.push(COLUMN, number, 0)
+    }
+
     /// Adds `column = value`.
-    #[cfg(any(split, lookup))]
     pub fn equal(&mut self, column: u64, value: u64) -> u64 {
-        use fontrisc::predicate::{EQUAL, INTEGER};
-        let x = self.column(column);
-        self.0.push([INTEGER, value, 0]);
-        self.0.push([EQUAL, x, x + 1]);
-        self.last()
+        let (left, right) = (self.column(column), self.push(INTEGER, value, 0));
+        self.push(EQUAL, left, right)
     }
 
     /// Adds a row with two operands.
     pub fn join(&mut self, kind: u64, left: u64, right: u64) -> u64 {
-        self.0.push([kind, left, right]);
-        self.last()
+        self.push(kind, left, right)
     }
 
     /// Adds a row with one operand, the last row.
     pub fn over(&mut self, kind: u64) -> u64 {
-        let operand = self.last();
-        self.0.push([kind, operand, 0]);
-        self.last()
+        self.push(kind, self.last(), 0)
     }
 
     /// Adds a chain over columns that leans to the left.
@@ -60,16 +57,11 @@ impl Rows {
         let last = columns.next().expect("a chain has an atom");
         columns.fold(last, |tree, left| self.join(kind, left, tree))
     }
-
-    /// The numbers of the rows one after another.
-    pub fn flat(&self) -> Vec<u64> {
-        self.0.as_flattened().to_vec()
-    }
 }
 
-/// Rows that a closure adds.
+/// The table of the rows that a closure adds.
 pub fn rows(make: impl FnOnce(&mut Rows)) -> Vec<u64> {
     let mut made = Rows::default();
     make(&mut made);
-    made.flat()
+    table_of(&made.0)
 }

@@ -2,7 +2,9 @@
 
 use crate::clock::{best, head, nanoseconds, ratio, row, shown};
 use crate::shapes::{AND, NOT, OR, Rows, rows};
+use fontrisc::limit;
 use oracle::expression::tree_of;
+use oracle::layout::row_count;
 use std::hint::black_box;
 
 /// What was measured and how, before the table.
@@ -17,66 +19,65 @@ Where its clauses are not split to the end (docs/DIFFERENCES.md, classes 6 and
 7), it does less than the library: in the NOT chains.
 ";
 
-/// The predicates: what each is called, and its rows.
-fn predicates() -> Vec<(String, Vec<u64>)> {
+/// A predicate: what it is called, and its rows.
+type Named = (String, Vec<u64>);
+
+/// A predicate with a name.
+fn named(name: impl Into<String>, make: impl FnOnce(&mut Rows)) -> Named {
+    (name.into(), rows(make))
+}
+
+/// The predicates.
+fn predicates() -> Vec<Named> {
     let mut all = vec![
-        (
-            "c = 7".to_string(),
-            rows(|made| {
-                made.equal(0, 7);
-            }),
-        ),
-        (
-            "c = 7 AND d = 8".to_string(),
-            rows(|made| {
-                conjunction(made, 2);
-            }),
-        ),
-        ("c = 7 AND (d = 8 OR NOT e = 9)".to_string(), rows(filter)),
-        ("(a AND b) OR NOT (c OR d)".to_string(), rows(small_product)),
+        named("c = 7", |made| conjunction(made, 1)),
+        named("c = 7 AND d = 8", |made| conjunction(made, 2)),
+        named("c = 7 AND (d = 8 OR NOT e = 9)", filter),
+        named("(a AND b) OR NOT (c OR d)", small_product),
     ];
-    for atoms in [255, 511, 1_023] {
-        let mut add = |name: &str, make: &dyn Fn(&mut Rows)| {
-            all.push((format!("{name}, {atoms} atoms"), rows(make)));
-        };
-        add("AND chain", &|made| {
+    all.extend([255, 511, 1_023].into_iter().flat_map(chains));
+    for nots in [255, 511, 1_023, 2_047] {
+        all.push(named(format!("NOT chain, {nots} NOTs"), |made| not_chain(made, nots)));
+    }
+    let eight = [2, 2, 2, 2, 2, 2, 4, 4];
+    all.push(named("OR of two ANDs of 32: 1,024 clauses of 2", |made| product(made, &[32; 2])));
+    all.push(named("OR of eight ANDs: 1,024 clauses of 8", |made| product(made, &eight)));
+    all
+}
+
+/// Chains over so many columns.
+fn chains(atoms: u64) -> [Named; 5] {
+    let name = |shape: &str| format!("{shape}, {atoms} atoms");
+    [
+        named(name("AND chain"), |made| {
             made.left_chain(AND, atoms);
-        });
-        add("OR chain", &|made| {
+        }),
+        named(name("OR chain"), |made| {
             made.left_chain(OR, atoms);
-        });
-        add("NOT of an AND chain", &|made| {
+        }),
+        named(name("NOT of an AND chain"), |made| {
             made.left_chain(AND, atoms);
             made.over(NOT);
-        });
-        add("(AND chain) OR x", &|made| {
+        }),
+        named(name("(AND chain) OR x"), |made| {
             let chain = made.left_chain(AND, atoms - 1);
             let x = made.column(9);
             made.join(OR, chain, x);
-        });
-        add("x OR (AND chain)", &|made| {
+        }),
+        named(name("x OR (AND chain)"), |made| {
             let x = made.column(9);
             let chain = made.right_chain(AND, atoms - 1);
             made.join(OR, x, chain);
-        });
+        }),
+    ]
+}
+
+/// A column under so many NOTs.
+fn not_chain(made: &mut Rows, nots: usize) {
+    made.column(0);
+    for _ in 0..nots {
+        made.over(NOT);
     }
-    for nots in [255, 511, 1_023, 2_047] {
-        let name = format!("NOT chain, {nots} NOTs");
-        let chain = |made: &mut Rows| {
-            made.column(0);
-            for _ in 0..nots {
-                made.over(NOT);
-            }
-        };
-        all.push((name, rows(chain)));
-    }
-    all.push((
-        "OR of two ANDs of 32: 1,024 clauses of 2".to_string(),
-        rows(|m| product(m, &[32; 2])),
-    ));
-    let eight = [2, 2, 2, 2, 2, 2, 4, 4];
-    all.push(("OR of eight ANDs: 1,024 clauses of 8".to_string(), rows(|m| product(m, &eight))));
-    all
 }
 
 /// An AND of comparisons.
@@ -139,8 +140,8 @@ pub fn table() {
 
 /// Prints the row of one predicate.
 fn measure(name: &str, rows: &[u64]) {
-    let count = rows.len() / 3;
-    let (mut literals, mut ends) = (vec![0; 8_192], vec![0; 1_024]);
+    let count = row_count(rows);
+    let (mut literals, mut ends) = (vec![0; limit::LITERALS], vec![0; limit::CLAUSES]);
     let listed = fontrisc::split(b"", rows, &mut literals, &mut ends).expect("a good predicate");
     let things = count + listed.literals;
     let tree = tree_of(b"", rows);

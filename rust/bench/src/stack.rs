@@ -7,7 +7,9 @@
 
 use crate::shapes::{AND, NOT, OR, Rows, rows};
 use fontrisc::predicate::NEGATE;
+use fontrisc::{ROW_WIDTH, limit};
 use oracle::cases::words;
+use oracle::layout::{row_count, token_count};
 use std::collections::BTreeMap;
 use std::fs::File;
 use std::io::{Read, Seek, SeekFrom};
@@ -21,30 +23,33 @@ const PAGE: usize = 4_096;
 /// The stack of each thread: more than any call needs.
 const STACK: usize = 8 << 20;
 
-/// A call that is measured.
+/// A call.
 type Call = Box<dyn FnOnce() + Send>;
 
-/// The calls, each with its entry and what it is lent.
-fn calls() -> Vec<(&'static str, String, Call)> {
-    let mut calls: Vec<(&'static str, String, Call)> = Vec::new();
-    calls.push(("nothing", "what measuring itself needs, at most".to_string(), Box::new(|| ())));
-    for (name, line) in deep_lists() {
-        let made = words(&line);
-        let name = format!("{name}, {} tokens", made.tokens.len() / 3);
-        calls.push((
-            "parse",
-            name,
-            Box::new(move || {
-                let mut table = vec![0; 3 * fontrisc::limit::ROWS];
-                let read = fontrisc::parse(&made.text, &made.tokens, &mut table);
-                assert!(read.is_ok(), "{read:?}");
-            }),
-        ));
-    }
+/// A call that is measured: its entry, what it is lent, the call itself.
+type Measured = (&'static str, String, Call);
+
+/// The calls that are measured.
+fn calls() -> Vec<Measured> {
+    let nothing = "what measuring itself needs, at most".to_string();
+    let mut calls: Vec<Measured> = vec![("nothing", nothing, Box::new(|| ()))];
+    calls.extend(deep_lists().into_iter().map(|(name, line)| parse_call(name, &line)));
     for (name, rows) in deep_predicates() {
-        predicate_calls(&mut calls, name, rows);
+        calls.extend(predicate_calls(&name, rows));
     }
     calls
+}
+
+/// The call of `parse` with words.
+fn parse_call(name: &str, line: &str) -> Measured {
+    let made = words(line);
+    let name = format!("{name}, {} tokens", token_count(&made.tokens));
+    let parse = move || {
+        let mut table = vec![0; ROW_WIDTH * limit::ROWS];
+        let read = fontrisc::parse(&made.text, &made.tokens, &mut table);
+        assert!(read.is_ok(), "{read:?}");
+    };
+    ("parse", name, Box::new(parse))
 }
 
 /// Token lists 64 levels deep, each by another way, as long as they may be.
@@ -82,8 +87,8 @@ fn deep_predicates() -> Vec<(String, Vec<u64>)> {
                 make(made);
                 made.over(NOT);
             });
-            all.push((format!("{shape}, {} rows", plain.len() / 3), plain));
-            all.push((format!("NOT of {shape}, {} rows", negated.len() / 3), negated));
+            all.push((format!("{shape}, {} rows", row_count(&plain)), plain));
+            all.push((format!("NOT of {shape}, {} rows", row_count(&negated)), negated));
         };
         add(format!("{name} chain to the left"), &|made| {
             made.left_chain(kind, 1_024);
@@ -114,7 +119,7 @@ fn deep_predicates() -> Vec<(String, Vec<u64>)> {
 /// One operand row over another, up to 2,048 rows.
 fn chain_of(made: &mut Rows, kind: u64) {
     made.column(0);
-    for _ in 1..2_048 {
+    for _ in 1..limit::ROWS {
         made.over(kind);
     }
 }
@@ -128,38 +133,32 @@ fn alternating(made: &mut Rows) {
     }
 }
 
-/// Adds the entries that take a predicate, as far as the library has them.
-#[cfg_attr(not(any(split, lookup)), allow(unused_variables, clippy::ptr_arg))]
-fn predicate_calls(calls: &mut Vec<(&'static str, String, Call)>, name: String, rows: Vec<u64>) {
-    #[cfg(split)]
-    {
-        let rows = rows.clone();
-        let call = move || {
-            let (mut literals, mut ends) = (vec![0; 8_192], vec![0; 1_024]);
-            let listed = fontrisc::split(b"", &rows, &mut literals, &mut ends);
-            assert!(listed.is_ok(), "{listed:?}");
-        };
-        calls.push(("split", name.clone(), Box::new(call)));
-    }
-    #[cfg(lookup)]
-    {
-        // What a call needs can depend on the clause: the first and the last are asked for.
-        let clauses = oracle::plain::split(b"", &rows).map_or(1, |clauses| clauses.len());
-        let asked = [0, clauses - 1];
-        let again = rows.clone();
-        let call = move || {
-            for clause in asked {
-                let _ = fontrisc::lookup(b"", &again, clause);
-            }
-        };
-        calls.push(("lookup", name.clone(), Box::new(call)));
-        let call = move || {
-            for clause in asked {
-                let _ = fontrisc::value_at(b"", &rows, clause, 0);
-            }
-        };
-        calls.push(("value_at", name, Box::new(call)));
-    }
+/// The calls of the entries that take a predicate.
+fn predicate_calls(name: &str, rows: Vec<u64>) -> [Measured; 3] {
+    // What a call needs can depend on the clause: the first and the last are asked for.
+    let clauses = oracle::plain::split(b"", &rows).map_or(1, |clauses| clauses.len());
+    let asked = [0, clauses - 1];
+    let [split_rows, lookup_rows, value_rows] = [rows.clone(), rows.clone(), rows];
+    let split = move || {
+        let (mut literals, mut ends) = (vec![0; limit::LITERALS], vec![0; limit::CLAUSES]);
+        let listed = fontrisc::split(b"", &split_rows, &mut literals, &mut ends);
+        assert!(listed.is_ok(), "{listed:?}");
+    };
+    let lookup = move || {
+        for clause in asked {
+            let _ = fontrisc::lookup(b"", &lookup_rows, clause);
+        }
+    };
+    let value = move || {
+        for clause in asked {
+            let _ = fontrisc::value_at(b"", &value_rows, clause, 0);
+        }
+    };
+    [
+        ("split", name.to_string(), Box::new(split)),
+        ("lookup", name.to_string(), Box::new(lookup)),
+        ("value_at", name.to_string(), Box::new(value)),
+    ]
 }
 
 /// Measures every call and prints the table.

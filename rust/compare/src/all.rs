@@ -1,41 +1,42 @@
 //! All entries in one run: a share of the cases for each, in turn.
 
 use crate::entries::Library;
+use crate::lookup::{self, Lookup, Value};
 use crate::parse::Parse;
-use crate::run::{Chosen, Difference, Tally, by_chance};
+use crate::run::{Chosen, Ran, Tally, by_chance};
 use crate::spelled::{self, Spelled};
+use crate::split::{self, Split};
 use crate::tokens;
 
-/// How many cases of each entry there are in one turn: what takes longer has
-/// fewer.
-const SHARES: [(&str, u64); 5] =
-    [("parse", 4_000), ("spelled", 4_000), ("split", 1_000), ("lookup", 500), ("value", 500)];
+/// An entry by its name, how many of its cases there are in one turn, and its run
+/// by chance.
+type Entry = (&'static str, u64, fn(Chosen) -> Ran);
 
-/// How many cases one turn has.
+/// All entries. What takes longer has fewer cases.
+const ENTRIES: [Entry; 5] = [
+    ("parse", 4_000, |chosen| by_chance(&mut Parse::of(&Library), chosen, tokens::random_case)),
+    ("spelled", 4_000, |chosen| by_chance(&mut Spelled(&Library), chosen, spelled::random_case)),
+    ("split", 1_000, |chosen| by_chance(&mut Split::of(&Library), chosen, split::random_case)),
+    ("lookup", 500, |chosen| by_chance(&mut Lookup(&Library), chosen, lookup::random_case)),
+    ("value", 500, |chosen| by_chance(&mut Value(&Library), chosen, lookup::random_case)),
+];
+
+/// How many cases one turn has: the sum over all entries.
 pub const TURN: u64 = 10_000;
 
-/// The cases of one entry.
-fn entry(name: &str, chosen: Chosen) -> Result<Tally, Box<Difference>> {
-    match name {
-        "parse" => by_chance(&mut Parse::of(&Library), chosen, tokens::made),
-        "spelled" => by_chance(&mut Spelled(&Library), chosen, spelled::made),
-        #[cfg(split)]
-        "split" => by_chance(&mut crate::split::Split::of(&Library), chosen, crate::split::made),
-        #[cfg(lookup)]
-        "lookup" => by_chance(&mut crate::lookup::Lookup(&Library), chosen, crate::lookup::made),
-        #[cfg(lookup)]
-        "value" => by_chance(&mut crate::lookup::Value(&Library), chosen, crate::lookup::made),
-        _ => Ok(Tally::default()),
-    }
+/// Compares cases of one entry by chance; none if there is no such entry.
+pub fn entry_by_chance(name: &str, chosen: Chosen) -> Option<Ran> {
+    let entry = ENTRIES.iter().find(|(entry, ..)| *entry == name);
+    entry.map(|(_, _, run)| run(chosen))
 }
 
 /// One turn of a run with this seed: the cases of each entry follow those of
 /// the turns before it.
-pub fn turn(seed: u64, number: u64) -> Result<Tally, Box<Difference>> {
+pub fn turn(seed: u64, number: u64) -> Ran {
     let mut tally = Tally::default();
-    for (name, cases) in SHARES {
+    for (name, cases, run) in ENTRIES {
         let chosen = Chosen { seed, from: number * cases, cases };
-        tally.add(&entry(name, chosen).map_err(|mut difference| {
+        tally.add(&run(chosen).map_err(|mut difference| {
             difference.origin = format!("{name}, {}", difference.origin);
             difference
         })?);
@@ -44,11 +45,7 @@ pub fn turn(seed: u64, number: u64) -> Result<Tally, Box<Difference>> {
 }
 
 /// So many turns; after every thousandth, `said` is told what there was so far.
-pub fn turns(
-    seed: u64,
-    count: u64,
-    mut said: impl FnMut(&Tally),
-) -> Result<Tally, Box<Difference>> {
+pub fn turns(seed: u64, count: u64, mut said: impl FnMut(&Tally)) -> Ran {
     let mut tally = Tally::default();
     for number in 0..count {
         tally.add(&turn(seed, number)?);

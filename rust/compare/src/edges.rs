@@ -2,7 +2,10 @@
 //! tokens, bytes, tables and lists.
 
 use crate::{parse, split};
-use oracle::cases::{Predicate, Tokens, Tree, and, lay, not, or, words};
+use fontrisc::predicate::{AND, COLUMN, OR, STRING};
+use fontrisc::token::{IDENT, NUMBER, OPEN_PAREN, WRITE};
+use oracle::cases::{Predicate, Tokens, Tree, binary, not, predicate_of, words};
+use oracle::layout::{ROW_WIDTH, Row, TOKEN_WIDTH, table_of, token_count};
 use oracle::plain::{self, limit};
 
 /// The ways to go down one level, each with what closes it.
@@ -57,9 +60,10 @@ fn many_rows() -> Vec<Tokens> {
 /// Tables of about 4,096 tokens, whole and ragged.
 fn many_tokens() -> Vec<Tokens> {
     let mut tables = Vec::new();
-    for slots in 3 * limit::TOKENS - 3..=3 * limit::TOKENS + 4 {
-        for kind in [1, 3, 28, 88] {
-            let tokens = [kind, 0, 1].iter().copied().cycle().take(slots).collect();
+    let most = TOKEN_WIDTH * limit::TOKENS;
+    for numbers in most - TOKEN_WIDTH..=most + TOKEN_WIDTH + 1 {
+        for kind in [NUMBER, IDENT, OPEN_PAREN, WRITE] {
+            let tokens = [kind, 0, 1].iter().copied().cycle().take(numbers).collect();
             tables.push(Tokens { text: b"1".to_vec(), tokens });
         }
     }
@@ -73,7 +77,7 @@ fn long_texts() -> Vec<Tokens> {
         for byte in [b'0', b'9', b'.', b'x'] {
             for (start, more) in [(0, 0), (1, 0), (length, 0), (0, 1), (length + 1, 0)] {
                 let rest = (length + more).saturating_sub(start);
-                let tokens = vec![1, start as u32, rest as u32];
+                let tokens = vec![NUMBER, start as u32, rest as u32];
                 tables.push(Tokens { text: vec![byte; length], tokens });
             }
         }
@@ -84,12 +88,13 @@ fn long_texts() -> Vec<Tokens> {
 /// A token table with row tables of many lengths.
 fn with_tables(made: Tokens) -> impl Iterator<Item = parse::Case> {
     let rows = plain::parse(&made.text, &made.tokens, limit::ROWS, limit::LEVELS);
-    let exact = 3 * rows.map_or(3, |rows| rows.len());
-    let mut lengths = vec![0, 1, 2, 3, exact, exact + 1, exact + 2, exact + 3];
-    lengths.extend([1, 2, 3, 4].map(|less| exact.saturating_sub(less)));
-    if made.tokens.len() > 1_000 {
-        let most = 3 * limit::ROWS;
-        lengths.extend([most - 3, most - 1, most, most + 1, most + 3, most + 3_000]);
+    let exact = ROW_WIDTH * rows.map_or(3, |rows| rows.len());
+    let mut lengths: Vec<usize> = (0..=ROW_WIDTH).chain(exact..=exact + ROW_WIDTH).collect();
+    lengths.extend((1..=ROW_WIDTH + 1).map(|less| exact.saturating_sub(less)));
+    if token_count(&made.tokens) > 333 {
+        let most = ROW_WIDTH * limit::ROWS;
+        let near = [most - ROW_WIDTH, most - 1, most, most + 1, most + ROW_WIDTH];
+        lengths.extend(near.into_iter().chain([most + 1_000 * ROW_WIDTH]));
     }
     let case =
         move |slots| parse::Case { text: made.text.clone(), tokens: made.tokens.clone(), slots };
@@ -99,60 +104,60 @@ fn with_tables(made: Tokens) -> impl Iterator<Item = parse::Case> {
 /// Predicates at the edges, each with lists of many lengths.
 pub fn of_split() -> Vec<split::Case> {
     let mut all = Vec::new();
-    for (inner, sizes) in products() {
-        let tree = product(inner, sizes);
-        all.push(lay(&tree));
-        all.push(lay(&not(product(15 - inner, sizes))));
-        all.push(lay(&not(not(tree))));
+    for sizes in PRODUCTS {
+        let tree = joined(OR, AND, sizes);
+        all.push(predicate_of(&tree));
+        all.push(predicate_of(&not(joined(AND, OR, sizes))));
+        all.push(predicate_of(&not(not(tree))));
     }
     for atoms in [1_022, 1_023, 1_024] {
-        all.push(lay(&chain(7, atoms)));
-        all.push(lay(&chain(8, atoms)));
-        all.push(lay(&not(chain(7, atoms))));
-        all.push(lay(&not(chain(8, atoms))));
+        all.push(predicate_of(&chain(AND, atoms)));
+        all.push(predicate_of(&chain(OR, atoms)));
+        all.push(predicate_of(&not(chain(AND, atoms))));
+        all.push(predicate_of(&not(chain(OR, atoms))));
     }
     for count in limit::ROWS - 1..=limit::ROWS + 1 {
-        all.push(lay(&(1..count).fold(Tree::Column(0), |tree, _| not(tree))));
-        all.push(Predicate { text: Vec::new(), rows: [6, 0, 0].repeat(count) });
+        all.push(predicate_of(&(1..count).fold(Tree::Column(0), |tree, _| not(tree))));
+        all.push(Predicate {
+            text: Vec::new(),
+            rows: Row::new(COLUMN, 0, 0).numbers().repeat(count),
+        });
     }
     for length in limit::TEXT - 1..=limit::TEXT + 1 {
         let text = vec![b's'; length];
         for (start, more) in [(0, 0), (length, 0), (0, 1), (length, 1), (length + 1, 0)] {
             let rest = (length + more).saturating_sub(start);
-            all.push(Predicate { text: text.clone(), rows: vec![5, start as u64, rest as u64] });
+            let row = Row::new(STRING, start as u64, rest as u64);
+            all.push(Predicate { text: text.clone(), rows: row.numbers().to_vec() });
         }
     }
     all.extend(numbers().map(|rows| Predicate { text: b"text".to_vec(), rows }));
     all.into_iter().flat_map(with_lists).collect()
 }
 
-/// The kind joined within, and the sizes of the parts.
-fn products() -> Vec<(u64, &'static [u64])> {
-    let sizes: [&[u64]; 9] = [
-        &[32, 32],
-        &[33, 31],
-        &[25, 41],
-        &[2, 2, 2, 2, 2, 2, 4, 4],
-        &[2, 2, 2, 2, 2, 2, 2, 2, 4],
-        &[2, 2, 2, 2, 2, 2, 2, 2, 2],
-        &[1, 1_024],
-        &[1_023, 1],
-        &[1_000, 1, 1, 1, 1, 1, 1],
-    ];
-    sizes.into_iter().map(|sizes| (7, sizes)).collect()
-}
+/// How many atoms the ANDs have whose OR is split: close to as many clauses and
+/// literals as allowed, or past it.
+const PRODUCTS: [&[u64]; 9] = [
+    &[32, 32],
+    &[33, 31],
+    &[25, 41],
+    &[2, 2, 2, 2, 2, 2, 4, 4],
+    &[2, 2, 2, 2, 2, 2, 2, 2, 4],
+    &[2, 2, 2, 2, 2, 2, 2, 2, 2],
+    &[1, 1_024],
+    &[1_023, 1],
+    &[1_000, 1, 1, 1, 1, 1, 1],
+];
 
-/// Chains of one kind, joined by the other.
-fn product(inner: u64, sizes: &[u64]) -> Tree {
-    let mut parts = sizes.iter().map(|size| chain(inner, *size));
-    let first = parts.next().expect("there are parts");
-    parts.fold(first, if inner == 7 { or } else { and })
+/// Chains of the inner kind, joined by the outer one.
+fn joined(outer: u64, inner: u64, sizes: &[u64]) -> Tree {
+    let parts = sizes.iter().map(|size| chain(inner, *size));
+    parts.reduce(|left, right| binary(outer, left, right)).expect("there are parts")
 }
 
 /// A chain of one kind over columns.
 fn chain(kind: u64, atoms: u64) -> Tree {
-    let join = if kind == 7 { and } else { or };
-    (1..atoms).fold(Tree::Column(0), |tree, n| join(tree, Tree::Column(n)))
+    (1..atoms).fold(Tree::Column(0), |tree, n| binary(kind, tree, Tree::Column(n)))
 }
 
 /// Numbers at the edges of what a row may hold.
@@ -163,8 +168,9 @@ const NUMBERS: [u64; 12] =
 fn numbers() -> impl Iterator<Item = Vec<u64>> {
     let kinds = (0..=26).chain([1 << 32, u64::MAX]);
     let pairs = kinds.flat_map(|kind| NUMBERS.iter().map(move |x| (kind, *x)));
-    let rows = pairs.flat_map(|(kind, x)| NUMBERS.iter().map(move |y| vec![kind, x, *y]));
-    rows.flat_map(|row| [[vec![6, 0, 0], row.clone()].concat(), row])
+    let rows = pairs.flat_map(|(kind, x)| NUMBERS.iter().map(move |y| Row::new(kind, x, *y)));
+    let column = Row::new(COLUMN, 0, 0);
+    rows.flat_map(move |row| [table_of(&[column, row]), table_of(&[row])])
 }
 
 /// A predicate with lists of many lengths.

@@ -1,6 +1,7 @@
 //! The entries as traits, in the numbers of the C functions (FORMAT §11.8), and
 //! the two sides that have them.
 
+use oracle::layout::{Constant, ROW_WIDTH, Row, row_count, table_of};
 use oracle::plain::{self, limit};
 
 /// A side that reads tokens.
@@ -29,8 +30,8 @@ pub trait LooksUp {
     /// The refusal's number, and column and count of values, or the place and 0.
     fn lookup(&self, text: &[u8], rows: &[u64], clause: usize) -> (u32, u64, u64);
 
-    /// The refusal's number, and the value as a row, or the place, 0 and 0.
-    fn value(&self, text: &[u8], rows: &[u64], clause: usize, n: usize) -> (u32, [u64; 3]);
+    /// The refusal's number, and the value as a constant, or the place, 0 and 0.
+    fn value(&self, text: &[u8], rows: &[u64], clause: usize, n: usize) -> (u32, Constant);
 }
 
 /// The proved library.
@@ -46,7 +47,6 @@ impl Reads for Library {
     }
 }
 
-#[cfg(split)]
 impl Splits for Library {
     fn split(
         &self,
@@ -59,13 +59,12 @@ impl Splits for Library {
     }
 }
 
-#[cfg(lookup)]
 impl LooksUp for Library {
     fn lookup(&self, text: &[u8], rows: &[u64], clause: usize) -> (u32, u64, u64) {
         fontrisc::numbers::lookup(text, rows, clause)
     }
 
-    fn value(&self, text: &[u8], rows: &[u64], clause: usize, n: usize) -> (u32, [u64; 3]) {
+    fn value(&self, text: &[u8], rows: &[u64], clause: usize, n: usize) -> (u32, Constant) {
         fontrisc::numbers::value(text, rows, clause, n)
     }
 }
@@ -75,14 +74,11 @@ pub struct Rules;
 
 impl Reads for Rules {
     fn parse(&self, text: &[u8], tokens: &[u32], rows: &mut [u64]) -> (u32, u64) {
-        match plain::parse(text, tokens, rows.len() / 3, limit::LEVELS) {
-            Ok(made) => {
-                rows[..3 * made.len()].copy_from_slice(made.as_flattened());
-                (0, made.len() as u64)
-            }
+        match plain::parse(text, tokens, row_count(rows), limit::LEVELS) {
+            Ok(made) => (0, write_rows(rows, &made)),
             Err((number, place)) => {
                 rows.fill(0);
-                (number as u32, place)
+                (number, place)
             }
         }
     }
@@ -90,6 +86,12 @@ impl Reads for Rules {
     fn spelled(&self, text: &[u8], tokens: &[u32], n: usize) -> (u64, u64) {
         plain::spelled(text, tokens, n)
     }
+}
+
+/// Writes rows at the start of a table, and answers how many.
+pub fn write_rows(table: &mut [u64], rows: &[Row]) -> u64 {
+    table[..ROW_WIDTH * rows.len()].copy_from_slice(&table_of(rows));
+    rows.len() as u64
 }
 
 impl Splits for Rules {
@@ -102,17 +104,17 @@ impl Splits for Rules {
     ) -> (u32, u64, u64) {
         match plain::split_into(text, rows, literals.len(), ends.len()) {
             Ok((made_literals, made_ends)) => {
-                write(literals, &made_literals);
-                write(ends, &made_ends);
+                write_numbers(literals, &made_literals);
+                write_numbers(ends, &made_ends);
                 (0, made_ends.len() as u64, made_literals.len() as u64)
             }
-            Err((number, place)) => (number as u32, place, 0),
+            Err((number, place)) => (number, place, 0),
         }
     }
 }
 
 /// Writes numbers at the start of a list.
-fn write(list: &mut [u32], numbers: &[u64]) {
+fn write_numbers(list: &mut [u32], numbers: &[u64]) {
     list.iter_mut().zip(numbers).for_each(|(place, number)| *place = *number as u32);
 }
 
@@ -120,17 +122,17 @@ impl LooksUp for Rules {
     fn lookup(&self, text: &[u8], rows: &[u64], clause: usize) -> (u32, u64, u64) {
         match plain::lookup(text, rows, clause) {
             Ok(found) => (0, found.column, found.values.len() as u64),
-            Err((number, place)) => (number as u32, place, 0),
+            Err((number, place)) => (number, place, 0),
         }
     }
 
-    fn value(&self, text: &[u8], rows: &[u64], clause: usize, n: usize) -> (u32, [u64; 3]) {
+    fn value(&self, text: &[u8], rows: &[u64], clause: usize, n: usize) -> (u32, Constant) {
         match plain::lookup(text, rows, clause) {
-            Ok(found) => match found.rows.get(n) {
-                Some(row) => (0, *row),
-                None => (plain::refusal::NO_SUCH as u32, [0; 3]),
+            Ok(found) => match found.constants.get(n) {
+                Some(constant) => (0, *constant),
+                None => (plain::refusal::NO_SUCH, Constant::default()),
             },
-            Err((number, place)) => (number as u32, [place, 0, 0]),
+            Err((number, place)) => (number, [place, 0, 0]),
         }
     }
 }

@@ -10,7 +10,7 @@
 //! * [`parse`], [`spelled`], [`split`], [`lookup`]: the comparison of each entry.
 //! * [`tokens`], [`predicates`]: cases made by chance; [`edges`]: those at the
 //!   limits, from both sides.
-//! * [`included`]: what the original says, outside the classes of
+//! * [`original`]: what the original says, outside the classes of
 //!   docs/DIFFERENCES.md.
 //! * [`run`]: many cases one after another; [`all`]: of all entries in turn;
 //!   [`shrink`]: small ones from large.
@@ -20,10 +20,11 @@ pub mod all;
 pub mod arguments;
 pub mod edges;
 pub mod entries;
-pub mod included;
+
 pub mod lent;
 pub mod lookup;
 mod maker;
+pub mod original;
 pub mod parse;
 pub mod predicates;
 pub mod run;

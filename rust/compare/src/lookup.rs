@@ -1,13 +1,14 @@
 //! The comparison of `lookup` and `value_at`.
 
 use crate::entries::{LooksUp, Rules};
-use crate::included::{self, Verdict};
+use crate::original::{self, Verdict};
 use crate::predicates;
 use crate::run::{Comparison, Outcome};
 use crate::shrink::{Shrinks, lower};
 use crate::split::write_predicate;
-use oracle::cases::{Dice, Predicate, lay};
+use oracle::cases::{Dice, Predicate, predicate_of};
 use oracle::expression::Clause;
+use oracle::layout::Constant;
 use oracle::plain;
 use oracle::plain::refusal::{NO_SUCH, NOT_LOOKUP};
 use std::fmt::{Display, Formatter};
@@ -26,10 +27,10 @@ pub struct Case {
 }
 
 /// Makes a case by chance.
-pub fn made(dice: &mut Dice) -> Case {
+pub fn random_case(dice: &mut Dice) -> Case {
     let made = match dice.below(3) {
-        0 => predicates::made(dice),
-        _ => lay(&predicates::lookups(dice)),
+        0 => predicates::random_predicate(dice),
+        _ => predicate_of(&predicates::lookups(dice)),
     };
     let (clauses, _) = predicates::counts(&made);
     let clause = number(dice, clauses);
@@ -51,7 +52,6 @@ fn number(dice: &mut Dice, count: usize) -> usize {
 
 /// The original's clauses of a case, if the clause asked for is among them.
 fn clauses(case: &Case, number: u32) -> Option<Vec<Clause>> {
-    let number = u64::from(number);
     if number != 0 && number != NOT_LOOKUP && number != NO_SUCH {
         return None;
     }
@@ -59,7 +59,7 @@ fn clauses(case: &Case, number: u32) -> Option<Vec<Clause>> {
     if case.clause >= list.len() {
         return None;
     }
-    included::clauses(&case.text, &case.rows, list.len() as u64)
+    original::clauses(&case.text, &case.rows, list.len() as u64)
 }
 
 /// Compares `lookup` of a side with the rules and with the original.
@@ -75,8 +75,9 @@ impl<S: LooksUp> Comparison for Lookup<'_, S> {
             return Outcome::Differs(format!("answer: {ours:?}; by the rules {rules:?}"));
         }
         let found = (ours.0 == 0).then_some((ours.1, ours.2));
-        let verdict = clauses(case, ours.0)
-            .map_or(Verdict::Class(0), |made| included::looking(&made, case.clause, found));
+        let verdict = clauses(case, ours.0).map_or(Verdict::NotAsked, |made| {
+            original::verdict_on_lookup(&made, case.clause, found)
+        });
         Outcome::of(&format!("answer: {ours:?};"), ours.0, verdict)
     }
 }
@@ -93,24 +94,24 @@ impl<S: LooksUp> Comparison for Value<'_, S> {
         if ours != rules {
             return Outcome::Differs(format!("answer: {ours:?}; by the rules {rules:?}"));
         }
-        let verdict = clauses(case, ours.0).map_or(Verdict::Class(0), |made| {
-            let row = (ours.0 == 0).then_some(ours.1);
-            valued(&made, case, ours.0, row)
+        let verdict = clauses(case, ours.0).map_or(Verdict::NotAsked, |made| {
+            let constant = (ours.0 == 0).then_some(ours.1);
+            verdict_on_value(&made, case, ours.0, constant)
         });
         Outcome::of(&format!("answer: {ours:?};"), ours.0, verdict)
     }
 }
 
 /// Holds a value to the original's value with that number.
-fn valued(made: &[Clause], case: &Case, number: u32, ours: Option<[u64; 3]>) -> Verdict {
+fn verdict_on_value(made: &[Clause], case: &Case, number: u32, ours: Option<Constant>) -> Verdict {
     if made.iter().any(|clause| clause.literals.is_none()) {
         return Verdict::Class(10);
     }
     let clause = &made[case.clause];
-    let theirs = clause.lookup.as_ref().and_then(|lookup| lookup.rows.get(case.n).copied());
+    let theirs = clause.lookup.as_ref().and_then(|lookup| lookup.constants.get(case.n).copied());
     if theirs == ours {
         Verdict::Same
-    } else if clause.altered && u64::from(number) == NOT_LOOKUP {
+    } else if clause.altered && number == NOT_LOOKUP {
         Verdict::Class(9)
     } else {
         Verdict::Other(format!("{theirs:?}"))

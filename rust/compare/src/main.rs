@@ -3,12 +3,11 @@
 
 use compare::all;
 use compare::arguments::{Which, asked};
-use compare::edges;
 use compare::entries::Library;
 use compare::parse::Parse;
-use compare::run::{self, Chosen, Difference, Tally};
-use compare::spelled::{self, Spelled};
-use compare::tokens;
+use compare::run::{self, Chosen, Ran};
+use compare::split::Split;
+use compare::{edges, predicates};
 use std::process::ExitCode;
 use std::time::Instant;
 
@@ -31,55 +30,26 @@ all:          all five entries in turn, ten thousand cases a turn, so COUNT is r
 
 Options may stand in any order.";
 
-/// What a run comes to; none if there is no such run.
-type Ran = Option<Result<Tally, Box<Difference>>>;
-
-/// Runs one comparison.
-fn run(entry: &str, which: Which) -> Ran {
+/// Runs one comparison; none if there is no such run.
+fn run(entry: &str, which: Which) -> Option<Ran> {
     Some(match (entry, which) {
         ("parse", Which::Edges) => {
             run::listed(&mut Parse::of(&Library), edges::of_parse().into_iter())
         }
         ("parse", Which::Exhaustive(longest)) => run::every_string(&Library, run::EVERY, longest),
         ("parse", Which::Parts(longest)) => run::every_string(&Library, run::PARTS, longest),
-        ("parse", Which::Chance(chosen)) => {
-            run::by_chance(&mut Parse::of(&Library), chosen, tokens::made)
+        ("split", Which::Edges) => {
+            run::listed(&mut Split::of(&Library), edges::of_split().into_iter())
         }
-        ("spelled", Which::Chance(chosen)) => {
-            run::by_chance(&mut Spelled(&Library), chosen, spelled::made)
+        ("split", Which::Exhaustive(atoms)) => {
+            run::listed(&mut Split::of(&Library), predicates::every_small(atoms))
         }
         ("all", Which::Chance(Chosen { seed, from: 0, cases })) => {
             all::turns(seed, cases.div_ceil(all::TURN), |tally| println!("{tally}\n"))
         }
         ("all", Which::Endless(seed)) => all::turns(seed, u64::MAX, |tally| println!("{tally}\n")),
-        #[cfg(split)]
-        ("split", which) => return split(which),
-        #[cfg(lookup)]
-        ("lookup", Which::Chance(chosen)) => {
-            use compare::lookup::{Lookup, made};
-            run::by_chance(&mut Lookup(&Library), chosen, made)
-        }
-        #[cfg(lookup)]
-        ("value", Which::Chance(chosen)) => {
-            use compare::lookup::{Value, made};
-            run::by_chance(&mut Value(&Library), chosen, made)
-        }
+        (entry, Which::Chance(chosen)) => return all::entry_by_chance(entry, chosen),
         _ => return None,
-    })
-}
-
-/// Runs a comparison of `split`.
-#[cfg(split)]
-fn split(which: Which) -> Ran {
-    use compare::predicates;
-    use compare::split::{Split, made};
-    Some(match which {
-        Which::Edges => run::listed(&mut Split::of(&Library), edges::of_split().into_iter()),
-        Which::Exhaustive(atoms) => {
-            run::listed(&mut Split::of(&Library), predicates::every_small(atoms))
-        }
-        Which::Chance(chosen) => run::by_chance(&mut Split::of(&Library), chosen, made),
-        Which::Parts(_) | Which::Endless(_) => return None,
     })
 }
 
@@ -98,8 +68,8 @@ fn main() -> ExitCode {
     };
     let start = Instant::now();
     // The original has no limit on levels, and trees are as deep as they are long.
-    match oracle::deep(|| run(entry, which)) {
-        None => unusable(&format!("`{entry}` has no such run, or the library no such entry")),
+    match oracle::on_large_stack(|| run(entry, which)) {
+        None => unusable(&format!("`{entry}` has no such run")),
         Some(Ok(tally)) => {
             println!("{tally}");
             println!("{:.1} seconds", start.elapsed().as_secs_f64());

@@ -1,9 +1,9 @@
 //! Token tables under construction: what is pushed gets a span that suits it.
 
 use crate::parse::Case;
-pub use fontrisc::token::{ASTERISK, COMMA, EXCLAMATION, IDENT, IS, MINUS, NAN, NOT, NULL};
-pub use fontrisc::token::{CLOSE_PAREN as CLOSE, NUMBER, OPEN_PAREN as OPEN, PERIOD, PLUS, STRING};
+use fontrisc::token::*;
 use oracle::cases::Dice;
+use oracle::layout::{ROW_WIDTH, token_count};
 use oracle::plain::{self, limit};
 
 /// Spellings of numbers that the format takes, then others.
@@ -47,24 +47,24 @@ pub const NUMBERS: [&str; 34] = [
 /// How many of [`NUMBERS`] the format takes.
 pub const GOOD: usize = 16;
 
-/// The infix operators' kinds with their precedences and side minimums.
+/// The infix operators: kind, precedence, and the minimum of the right side.
 pub const INFIX: [(u32, u32, u32); 16] = [
-    (4, 1, 2),
-    (5, 2, 3),
-    (6, 4, 5),
-    (7, 4, 5),
-    (8, 4, 5),
-    (9, 4, 5),
-    (10, 5, 6),
-    (11, 5, 6),
-    (12, 5, 6),
-    (13, 5, 6),
-    (14, 6, 7),
-    (15, 6, 7),
-    (16, 7, 8),
-    (17, 7, 8),
-    (18, 7, 8),
-    (19, 8, 8),
+    (OR, 1, 2),
+    (AND, 2, 3),
+    (EQUAL, 4, 5),
+    (NOT_EQUAL, 4, 5),
+    (LESS_OR_GREATER_THAN, 4, 5),
+    (LIKE, 4, 5),
+    (GREATER_THAN, 5, 6),
+    (GREATER_THAN_OR_EQUAL, 5, 6),
+    (LESS_THAN, 5, 6),
+    (LESS_THAN_OR_EQUAL, 5, 6),
+    (PLUS, 6, 7),
+    (MINUS, 6, 7),
+    (ASTERISK, 7, 8),
+    (SLASH, 7, 8),
+    (PERCENT, 7, 8),
+    (CARET, 8, 8),
 ];
 
 /// A case under construction: tokens whose spans lie anywhere in a text that
@@ -100,14 +100,14 @@ impl<'d> Maker<'d> {
     /// The case, with a table of a length that puts the rows to the test.
     pub fn done(self) -> Case {
         let rows = plain::parse(&self.text, &self.tokens, limit::ROWS, limit::LEVELS);
-        let needed = rows.map_or(self.tokens.len() / 6, |rows| rows.len());
+        let needed = rows.map_or(self.count() / 2, |rows| rows.len());
         let slots = slots(self.dice, needed);
         Case { text: self.text, tokens: self.tokens, slots }
     }
 
     /// How many tokens there are.
     pub fn count(&self) -> usize {
-        self.tokens.len() / 3
+        token_count(&self.tokens)
     }
 
     /// Adds a token of a kind, with a span that suits it.
@@ -141,9 +141,9 @@ impl<'d> Maker<'d> {
             3..6 => self.push(IDENT),
             6 => self.all(&[IDENT, PERIOD, IDENT]),
             7 => self.push(STRING),
-            8 => self.all(&[IDENT, OPEN, CLOSE]),
+            8 => self.all(&[IDENT, OPEN_PAREN, CLOSE_PAREN]),
             _ => {
-                let kind = self.dice.pick(&[ASTERISK, NULL, NAN, 25, 26, 27]);
+                let kind = self.dice.pick(&[ASTERISK, NULL, NAN, TRUE, FALSE, INFINITY]);
                 self.push(kind);
             }
         }
@@ -157,9 +157,9 @@ impl<'d> Maker<'d> {
         match self.dice.below(12) {
             0..6 => self.chain(budget, depth),
             6 => {
-                self.push(OPEN);
+                self.push(OPEN_PAREN);
                 self.grow(budget - 2, depth - 1);
-                self.push(CLOSE);
+                self.push(CLOSE_PAREN);
             }
             7 => {
                 let prefix = self.dice.pick(&[NOT, PLUS, MINUS, MINUS, MINUS]);
@@ -199,25 +199,25 @@ impl<'d> Maker<'d> {
     fn part(&mut self, budget: usize, depth: usize) {
         let closed = budget > 2 && self.dice.below(2) == 0;
         if closed {
-            self.push(OPEN);
+            self.push(OPEN_PAREN);
         }
         self.grow(budget, depth);
         if closed {
-            self.push(CLOSE);
+            self.push(CLOSE_PAREN);
         }
     }
 
     /// A function with arguments.
     fn call(&mut self, budget: usize, depth: usize) {
         let parts = self.dice.below((budget / 2).clamp(1, 40));
-        self.all(&[IDENT, OPEN]);
+        self.all(&[IDENT, OPEN_PAREN]);
         for part in 0..parts {
             if part > 0 {
                 self.push(COMMA);
             }
             self.grow(budget / parts, depth - 1);
         }
-        self.push(CLOSE);
+        self.push(CLOSE_PAREN);
     }
 
     /// Steps down by one level, at a minimum; adds what must close the step and
@@ -226,17 +226,17 @@ impl<'d> Maker<'d> {
         let infix: Vec<_> = INFIX.iter().filter(|(_, p, _)| *p >= minimum).copied().collect();
         match self.dice.below(6) {
             0 => {
-                self.push(OPEN);
-                closing.push(CLOSE);
+                self.push(OPEN_PAREN);
+                closing.push(CLOSE_PAREN);
                 0
             }
             1 => {
-                self.all(&[IDENT, OPEN]);
+                self.all(&[IDENT, OPEN_PAREN]);
                 for _ in 0..self.dice.below(3) {
                     self.leaf();
                     self.push(COMMA);
                 }
-                closing.push(CLOSE);
+                closing.push(CLOSE_PAREN);
                 0
             }
             2 if minimum <= 3 => {
@@ -261,18 +261,18 @@ impl<'d> Maker<'d> {
 /// A length for the table when a reading needs so many rows: exactly enough, a
 /// little more or less, next to nothing, or plenty.
 fn slots(dice: &mut Dice, needed: usize) -> usize {
-    let exact = 3 * needed;
+    let exact = ROW_WIDTH * needed;
     match dice.below(16) {
         0..3 => exact,
         3 => exact + 1,
         4 => exact + 2,
         5 => exact.saturating_sub(1),
         6 => exact.saturating_sub(2),
-        7 => exact.saturating_sub(3),
-        8 => dice.below(3),
+        7 => exact.saturating_sub(ROW_WIDTH),
+        8 => dice.below(ROW_WIDTH),
         9 => dice.below(exact + 1),
-        10 => 3 * dice.below(needed + 1) + 2,
-        11 if dice.below(20) == 0 => 3 * limit::ROWS + dice.below(8) - 4,
+        10 => ROW_WIDTH * dice.below(needed + 1) + ROW_WIDTH - 1,
+        11 if dice.below(20) == 0 => ROW_WIDTH * limit::ROWS + dice.below(8) - 4,
         _ => exact + dice.below(40),
     }
 }

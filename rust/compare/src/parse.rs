@@ -1,11 +1,12 @@
 //! The comparison of `parse`.
 
 use crate::entries::{Reads, Rules};
-use crate::included::{self, Verdict};
 use crate::lent::Lent;
+use crate::original::{self, Verdict};
 use crate::run::{Comparison, Outcome};
 use crate::shrink::{Shrinks, cuts, lower, packed_tokens, smaller_spans};
-use fontrisc::token::{CLOSE_PAREN, IDENT, NUMBER, OPEN_PAREN};
+use fontrisc::token::{CLOSE_PAREN, IDENT, NUMBER, OPEN_PAREN, OR, STRING, WRITE};
+use oracle::layout::{ROW_WIDTH, TOKEN_WIDTH, token_count};
 use oracle::plain::{self, limit};
 use std::fmt::{Display, Formatter};
 
@@ -47,8 +48,8 @@ impl<'s, S: Reads> Parse<'s, S> {
             return Outcome::Differs(self.numbers_at(said(ours), place));
         }
         let verdict = match asked {
-            true => included::reading(text, tokens, ours.0, ours.1, self.ours.seen()),
-            false => Verdict::Class(0),
+            true => original::verdict_on_parse(text, tokens, ours.0, ours.1, self.ours.seen()),
+            false => Verdict::NotAsked,
         };
         Outcome::of(&said(ours), ours.0, verdict)
     }
@@ -91,7 +92,7 @@ impl<S: Reads> Comparison for Parse<'_, S> {
 
 impl Shrinks for Case {
     fn smaller(&self) -> Box<dyn Iterator<Item = Case> + '_> {
-        let count = self.tokens.len() / 3;
+        let count = token_count(&self.tokens);
         let needed = self.needed();
         let cut = cuts(count).map(|cut| self.without(cut));
         let opened = self.pairs().into_iter().flat_map(|(open, close)| self.opened(open, close));
@@ -99,8 +100,8 @@ impl Shrinks for Case {
             let suited = needed.and_then(|needed| fewer.suited(needed));
             [Some(fewer), suited].into_iter().flatten()
         });
-        let ragged = (!self.tokens.len().is_multiple_of(3))
-            .then(|| Case { tokens: self.tokens[..3 * count].to_vec(), ..self.clone() });
+        let ragged = (!self.tokens.len().is_multiple_of(TOKEN_WIDTH))
+            .then(|| Case { tokens: self.tokens[..TOKEN_WIDTH * count].to_vec(), ..self.clone() });
         let slots = lower(self.slots).map(|slots| Case { slots, ..self.clone() });
         let packed = packed_tokens(&self.text, &self.tokens).map(|(text, tokens)| Case {
             text,
@@ -121,14 +122,14 @@ impl Case {
     /// The case without some of its tokens.
     fn without(&self, cut: std::ops::Range<usize>) -> Case {
         let mut tokens = self.tokens.clone();
-        tokens.drain(3 * cut.start..3 * cut.end);
+        tokens.drain(TOKEN_WIDTH * cut.start..TOKEN_WIDTH * cut.end);
         Case { tokens, ..self.clone() }
     }
 
     /// The parentheses that belong together, inner ones before outer ones.
     fn pairs(&self) -> Vec<(usize, usize)> {
         let (mut open, mut pairs) = (Vec::new(), Vec::new());
-        for (n, token) in self.tokens.chunks_exact(3).enumerate() {
+        for (n, token) in self.tokens.chunks_exact(TOKEN_WIDTH).enumerate() {
             match token[0] {
                 OPEN_PAREN => open.push(n),
                 CLOSE_PAREN => pairs.extend(open.pop().map(|open| (open, n))),
@@ -142,7 +143,7 @@ impl Case {
     /// if there is one.
     fn opened(&self, open: usize, close: usize) -> impl Iterator<Item = Case> + use<> {
         let without = self.without(close..close + 1).without(open..open + 1);
-        let name = open.checked_sub(1).filter(|name| self.tokens[3 * name] == IDENT);
+        let name = open.checked_sub(1).filter(|name| self.tokens[TOKEN_WIDTH * name] == IDENT);
         let bare = name.map(|name| without.without(name..name + 1));
         bare.into_iter().chain([without])
     }
@@ -150,7 +151,7 @@ impl Case {
     /// How many numbers of the table the rows would fill if there were room.
     fn needed(&self) -> Option<usize> {
         let rows = plain::parse(&self.text, &self.tokens, limit::ROWS, limit::LEVELS);
-        rows.ok().map(|rows| 3 * rows.len())
+        rows.ok().map(|rows| ROW_WIDTH * rows.len())
     }
 
     /// The case with its table as much longer or shorter than needed as it was
@@ -164,7 +165,7 @@ impl Case {
     /// by their bytes.
     fn with_empty_spans(&self) -> Option<Case> {
         let mut tokens = self.tokens.clone();
-        let others = tokens.chunks_exact_mut(3).filter(|token| token[0] != NUMBER);
+        let others = tokens.chunks_exact_mut(TOKEN_WIDTH).filter(|token| token[0] != NUMBER);
         others.for_each(|token| token[1..].fill(0));
         (tokens != self.tokens).then(|| Case { tokens, ..self.clone() })
     }
@@ -173,7 +174,7 @@ impl Case {
     fn with_plain_span(&self, n: usize) -> Option<Case> {
         let plain = [0, self.text.len().min(1) as u32];
         let mut tokens = self.tokens.clone();
-        let span = &mut tokens[3 * n + 1..3 * n + 3];
+        let span = &mut tokens.as_chunks_mut::<TOKEN_WIDTH>().0[n][1..];
         if *span == plain || *span == [0, 0] {
             return None;
         }
@@ -186,7 +187,7 @@ impl Display for Case {
     fn fmt(&self, f: &mut Formatter<'_>) -> std::fmt::Result {
         writeln!(f, "text of {} bytes: \"{}\"", self.text.len(), self.text.escape_ascii())?;
         writeln!(f, "tokens: {:?}", self.tokens)?;
-        let words = self.tokens.chunks(3).map(|token| word(token[0]));
+        let words = self.tokens.chunks(TOKEN_WIDTH).map(|token| word(token[0]));
         writeln!(f, "kinds: {}", words.collect::<Vec<_>>().join(" "))?;
         write!(f, "row table of {} numbers", self.slots)
     }
@@ -195,10 +196,10 @@ impl Display for Case {
 /// A word for a token's kind.
 fn word(kind: u32) -> String {
     match kind {
-        1 => "Number".to_string(),
-        2 => "String".to_string(),
-        3 => "Ident".to_string(),
-        4..=88 => oracle::cases::word_of(kind).to_string(),
+        NUMBER => "Number".to_string(),
+        STRING => "String".to_string(),
+        IDENT => "Ident".to_string(),
+        OR..=WRITE => oracle::cases::word_of(kind).to_string(),
         _ => format!("?{kind}"),
     }
 }

@@ -2,24 +2,25 @@
 
 use crate::shrink::{cuts, lower, packed};
 use crate::split::Case;
-use fontrisc::predicate::{AND, OR, STRING};
+use fontrisc::predicate::{AND, COLUMN, LIKE, NEGATE, NOT, NULL, OR, STRING};
 use oracle::cases::*;
+use oracle::layout::{ROW_WIDTH, Row, row_at, rows_of, table_of};
 use oracle::plain::predicate::operands;
 use oracle::plain::{self, limit};
 
 /// Makes a predicate by chance, good or bad.
-pub fn made(dice: &mut Dice) -> Predicate {
+pub fn random_predicate(dice: &mut Dice) -> Predicate {
     match dice.below(40) {
-        0..18 => lay(&small(dice)),
+        0..18 => predicate_of(&small(dice)),
         18..25 => {
-            let made = lay(&small(dice));
+            let made = predicate_of(&small(dice));
             damaged(dice, made)
         }
-        25..32 => lay(&lookups(dice)),
-        32..36 => lay(&product(dice)),
-        36..38 => lay(&dressed(&medium(dice), dice)),
+        25..32 => predicate_of(&lookups(dice)),
+        32..36 => predicate_of(&product(dice)),
+        36..38 => predicate_of(&dressed(&medium(dice), dice)),
         38 => odd(dice),
-        _ => lay(&long(dice)),
+        _ => predicate_of(&long(dice)),
     }
 }
 
@@ -68,7 +69,7 @@ fn leaning(lean: usize, kind: u64, first: u64, atoms: u64) -> Tree {
         _ => atoms / 2,
     };
     let right = leaning(lean, kind, first + left, atoms - left);
-    Tree::Binary(kind, Box::new(leaning(lean, kind, first, left)), Box::new(right))
+    binary(kind, leaning(lean, kind, first, left), right)
 }
 
 /// ANDs joined by ORs, or the same under a NOT: close to as many clauses and
@@ -94,7 +95,7 @@ fn product(dice: &mut Dice) -> Tree {
         let at = dice.below(parts.len() - 1);
         let right = parts.remove(at + 1);
         let left = std::mem::replace(&mut parts[at], Tree::Null);
-        parts[at] = Tree::Binary(outer, Box::new(left), Box::new(right));
+        parts[at] = binary(outer, left, right);
     }
     let tree = parts.pop().expect("one part is left");
     if inner == OR || dice.below(8) == 0 { not(tree) } else { tree }
@@ -104,13 +105,13 @@ fn product(dice: &mut Dice) -> Tree {
 fn medium(dice: &mut Dice) -> Tree {
     let outer = dice.pick(&[AND, OR]);
     let parts = 1 + dice.below(3);
-    let mut tree = chain(dice, 15 - outer, 1);
+    let mut tree = chain(dice, outer, 1);
     for _ in 0..parts {
         let inner = dice.pick(&[AND, OR]);
         let atoms = 1 + dice.below(12);
         let part = chain(dice, inner, atoms);
         let part = if dice.below(3) == 0 { not(part) } else { part };
-        tree = Tree::Binary(outer, Box::new(tree), Box::new(part));
+        tree = binary(outer, tree, part);
     }
     tree
 }
@@ -118,11 +119,8 @@ fn medium(dice: &mut Dice) -> Tree {
 /// The tree with its columns replaced by atoms that have operands.
 fn dressed(tree: &Tree, dice: &mut Dice) -> Tree {
     match tree {
-        Tree::Unary(9, inner) => not(dressed(inner, dice)),
-        Tree::Binary(kind, left, right) => {
-            let left = dressed(left, dice);
-            Tree::Binary(*kind, Box::new(left), Box::new(dressed(right, dice)))
-        }
+        Tree::Unary(NOT, inner) => not(dressed(inner, dice)),
+        Tree::Binary(kind, left, right) => binary(*kind, dressed(left, dice), dressed(right, dice)),
         _ => match dice.below(4) {
             // An AND below an atom is the atom's own affair.
             0 => equal(and(Tree::Column(1), not(Tree::Column(2))), Tree::Boolean(true)),
@@ -141,18 +139,18 @@ fn long(dice: &mut Dice) -> Tree {
         0 => chain(dice, kind, atoms),
         1 => {
             let left = chain(dice, kind, atoms - 1);
-            Tree::Binary(other, Box::new(left), Box::new(Tree::Column(9)))
+            binary(other, left, Tree::Column(9))
         }
         2 => {
             let right = chain(dice, kind, atoms - 1);
-            Tree::Binary(other, Box::new(Tree::Column(9)), Box::new(right))
+            binary(other, Tree::Column(9), right)
         }
         3 => (0..2 * atoms - 1).fold(Tree::Column(0), |tree, _| not(tree)),
         4 => (0..atoms / 2).fold(Tree::Column(0), |tree, n| {
             let kind = if n % 2 == 0 { kind } else { other };
-            not(Tree::Binary(kind, Box::new(Tree::Column(1)), Box::new(tree)))
+            not(binary(kind, Tree::Column(1), tree))
         }),
-        _ => (0..2 * atoms - 1).fold(Tree::Column(0), |tree, _| Tree::Unary(20, Box::new(tree))),
+        _ => (0..2 * atoms - 1).fold(Tree::Column(0), |tree, _| unary(NEGATE, tree)),
     };
     let nots = dice.below(3);
     (0..nots).fold(tree, |tree, _| not(tree))
@@ -166,20 +164,23 @@ fn damaged(dice: &mut Dice, mut made: Predicate) -> Predicate {
             break;
         }
         let at = dice.below(made.rows.len());
-        let row = at / 3 * 3;
+        let row = at / ROW_WIDTH * ROW_WIDTH;
         match dice.below(9) {
             0 => made.rows[at] = made.rows[at].wrapping_add(1),
             1 => made.rows[at] = made.rows[at].wrapping_sub(1),
             2 => made.rows[at] = dice.pick(&[0, 1, 2, 25, 65_535, 65_536, 1 << 32, u64::MAX]),
-            3 => made.rows[row] = 1 + dice.below(25) as u64,
-            4 => drop(made.rows.drain(row..(row + 3).min(made.rows.len()))),
+            3 => made.rows[row] = 1 + dice.below(LIKE as usize + 1) as u64,
+            4 => drop(made.rows.drain(row..(row + ROW_WIDTH).min(made.rows.len()))),
             5 => made.rows.truncate(at),
-            6 if made.rows.len().is_multiple_of(3) => made.rows.swap(row + 1, row + 2),
-            7 => made.rows.extend([6, dice.below(4) as u64, 0].iter().take(1 + dice.below(3))),
+            6 if made.rows.len().is_multiple_of(ROW_WIDTH) => made.rows.swap(row + 1, row + 2),
+            7 => {
+                let column = Row::new(COLUMN, dice.below(4) as u64, 0);
+                made.rows.extend(column.numbers().iter().take(1 + dice.below(ROW_WIDTH)));
+            }
             _ => {
                 let start = u64::MAX - dice.below(3) as u64;
                 let length = dice.below(4) as u64;
-                made.rows.extend([5, start, length.wrapping_sub(start)]);
+                made.rows.extend(Row::new(STRING, start, length.wrapping_sub(start)).numbers());
             }
         }
     }
@@ -190,10 +191,16 @@ fn damaged(dice: &mut Dice, mut made: Predicate) -> Predicate {
 fn odd(dice: &mut Dice) -> Predicate {
     let rows = match dice.below(5) {
         0 => Vec::new(),
-        1 => [1, 0, 0].repeat(limit::ROWS + dice.below(3) - 1),
-        2 => [[6, 1, 0].repeat(limit::ROWS), vec![9; 1 + dice.below(2)]].concat(),
-        3 => vec![5, limit::TEXT as u64 - 1, dice.below(3) as u64],
-        _ => lay(&small(dice)).rows,
+        1 => Row::new(NULL, 0, 0).numbers().repeat(limit::ROWS + dice.below(3) - 1),
+        2 => {
+            let most = Row::new(COLUMN, 1, 0).numbers().repeat(limit::ROWS);
+            [most, vec![NOT; 1 + dice.below(ROW_WIDTH - 1)]].concat()
+        }
+        3 => {
+            let string = Row::new(STRING, limit::TEXT as u64 - 1, dice.below(3) as u64);
+            string.numbers().to_vec()
+        }
+        _ => predicate_of(&small(dice)).rows,
     };
     let length = dice.pick(&[0, 1, limit::TEXT - 1, limit::TEXT, limit::TEXT + 1]);
     Predicate { text: vec![b's'; length], rows }
@@ -210,7 +217,7 @@ pub fn every_small(atoms: usize) -> impl Iterator<Item = Case> {
     });
     counts.flat_map(|(n, tree)| {
         let other = dressed(&tree, &mut Dice::new(n as u64));
-        [tree, other].into_iter().flat_map(move |tree| around(lay(&tree), n))
+        [tree, other].into_iter().flat_map(move |tree| around(predicate_of(&tree), n))
     })
 }
 
@@ -261,41 +268,40 @@ pub fn smaller(made: &Predicate) -> Box<dyn Iterator<Item = Predicate> + '_> {
     let hoisted = all.flat_map(move |r| {
         let starts = starts.clone();
         let leaf = (starts[r] < r).then(|| with_leaf(made, &starts, r));
-        let parts = operands(&row(made, r)).into_iter();
+        let parts = operands(&row_at(&made.rows, r)).into_iter();
         parts.map(move |o| with_operand(made, &starts, r, o as usize)).chain(leaf)
     });
     Box::new(hoisted.chain(text))
 }
 
-/// The rows that are strings.
-fn strings(made: &Predicate) -> impl Iterator<Item = usize> {
-    (0..made.rows.len() / 3).filter(|r| made.rows[3 * r] == STRING)
+/// The rows that are strings, each with its number.
+fn strings(made: &Predicate) -> impl Iterator<Item = (usize, Row)> {
+    rows_of(&made.rows).into_iter().enumerate().filter(|(_, row)| row.kind == STRING)
+}
+
+/// The predicate with other numbers in a row.
+fn with_row(made: &Predicate, r: usize, row: Row) -> Predicate {
+    let mut rows = made.rows.clone();
+    rows.as_chunks_mut().0[r] = row.numbers();
+    Predicate { text: made.text.clone(), rows }
 }
 
 /// The predicate without the bytes that no string uses.
 fn with_packed_text(made: &Predicate) -> Option<Predicate> {
-    let spans = strings(made).map(|r| (made.rows[3 * r + 1], made.rows[3 * r + 2]));
-    let (text, spans) = packed(&made.text, &spans.collect::<Vec<_>>())?;
-    let mut rows = made.rows.clone();
-    for (r, (start, length)) in strings(made).zip(spans) {
-        rows[3 * r + 1..3 * r + 3].copy_from_slice(&[start, length]);
-    }
-    Some(Predicate { text, rows })
+    let spans: Vec<_> = strings(made).map(|(_, string)| (string.x, string.y)).collect();
+    let (text, spans) = packed(&made.text, &spans)?;
+    let moved = strings(made).zip(spans).fold(made.clone(), |made, ((r, string), (x, y))| {
+        with_row(&made, r, Row { x, y, ..string })
+    });
+    Some(Predicate { text, rows: moved.rows })
 }
 
 /// The predicate with one of its strings cut short.
 fn with_shorter_strings(made: &Predicate) -> impl Iterator<Item = Predicate> {
-    let lengths = |r: usize| lower(made.rows[3 * r + 2] as usize).map(move |length| (r, length));
-    strings(made).flat_map(lengths).map(|(r, length)| {
-        let mut rows = made.rows.clone();
-        rows[3 * r + 2] = length as u64;
-        Predicate { text: made.text.clone(), rows }
+    strings(made).flat_map(move |(r, string)| {
+        let lengths = lower(string.y as usize);
+        lengths.map(move |length| with_row(made, r, Row { y: length as u64, ..string }))
     })
-}
-
-/// The three numbers of a row.
-fn row(made: &Predicate, r: usize) -> [u64; 3] {
-    [made.rows[3 * r], made.rows[3 * r + 1], made.rows[3 * r + 2]]
 }
 
 /// The first row of each row's subtree, if the predicate is a good one.
@@ -312,34 +318,36 @@ fn starts(made: &Predicate) -> Option<Vec<usize>> {
 /// The predicate with the subtree of row `r` replaced by that of its operand.
 fn with_operand(made: &Predicate, starts: &[usize], r: usize, operand: usize) -> Predicate {
     let (first, shift) = (starts[r], starts[operand] - starts[r]);
-    let kept: Vec<[u64; 3]> = (starts[operand]..=operand)
-        .map(|n| moved(row(made, n), |o| if o < starts[operand] { o } else { o - shift }))
+    let kept: Vec<Row> = (starts[operand]..=operand)
+        .map(|n| {
+            let row = row_at(&made.rows, n);
+            moved(row, |o| if o < starts[operand] { o } else { o - shift })
+        })
         .collect();
     replaced(made, first..r + 1, &kept)
 }
 
 /// The predicate with the subtree of row `r` replaced by a column.
 fn with_leaf(made: &Predicate, starts: &[usize], r: usize) -> Predicate {
-    replaced(made, starts[r]..r + 1, &[[6, 0, 0]])
+    replaced(made, starts[r]..r + 1, &[Row::new(COLUMN, 0, 0)])
 }
 
 /// The predicate with the rows of a subtree replaced by those of another.
-fn replaced(made: &Predicate, gone: std::ops::Range<usize>, by: &[[u64; 3]]) -> Predicate {
+fn replaced(made: &Predicate, gone: std::ops::Range<usize>, by: &[Row]) -> Predicate {
     let fewer = gone.len() - by.len();
-    let count = made.rows.len() / 3;
-    let before = made.rows[..3 * gone.start].iter().copied();
-    let after = (gone.end..count)
-        .map(|n| moved(row(made, n), |o| if o < gone.start { o } else { o - fewer }));
-    let rows = before.chain(by.iter().copied().chain(after).flatten()).collect();
-    Predicate { text: made.text.clone(), rows }
+    let rows = rows_of(&made.rows);
+    let after = rows[gone.end..].iter();
+    let after = after.map(|row| moved(*row, |o| if o < gone.start { o } else { o - fewer }));
+    let kept: Vec<Row> = rows[..gone.start].iter().chain(by).copied().chain(after).collect();
+    Predicate { text: made.text.clone(), rows: table_of(&kept) }
 }
 
 /// A row with its operands' numbers changed.
-fn moved([kind, x, y]: [u64; 3], number: impl Fn(usize) -> usize) -> [u64; 3] {
+fn moved(row: Row, number: impl Fn(usize) -> usize) -> Row {
     let number = |n: u64| number(n as usize) as u64;
-    match operands(&[kind, x, y]).len() {
-        0 => [kind, x, y],
-        1 => [kind, number(x), y],
-        _ => [kind, number(x), number(y)],
+    match operands(&row).len() {
+        0 => row,
+        1 => Row { x: number(row.x), ..row },
+        _ => Row { x: number(row.x), y: number(row.y), ..row },
     }
 }

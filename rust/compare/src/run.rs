@@ -2,10 +2,13 @@
 //! chance.
 
 use crate::entries::Reads;
-use crate::included::Verdict;
+use crate::original::Verdict;
 use crate::parse::{self, Parse};
 use crate::shrink::{Shrinks, shrink};
+use fontrisc::Refusal;
 use oracle::cases::{Dice, Tokens, words};
+use oracle::layout::{ROW_WIDTH, TOKEN_WIDTH};
+use std::collections::BTreeMap;
 use std::fmt::{Display, Formatter};
 
 /// What came of one case.
@@ -37,60 +40,60 @@ pub trait Comparison {
     fn compare(&mut self, case: &Self::Case) -> Outcome;
 }
 
-/// The most classes that docs/DIFFERENCES.md numbers, and one more.
-const CLASSES: usize = 17;
-
 /// How many cases were compared, and what came of them.
 #[derive(Clone, Debug, Default, PartialEq, Eq)]
 pub struct Tally {
     /// How many cases there were.
     pub cases: u64,
-    /// How many were answered (0) or refused with each number.
-    pub numbers: [u64; 15],
+    /// How many were refused, by the refusal's number.
+    pub refused: BTreeMap<u32, u64>,
     /// How many times the original's answer was the same.
     pub same: u64,
-    /// How many times each class kept it from being so; 0: it was not asked.
-    pub classes: [u64; CLASSES],
+    /// How many times it was not asked.
+    pub not_asked: u64,
+    /// How many times its answer was another, by the class in docs/DIFFERENCES.md.
+    pub classes: BTreeMap<usize, u64>,
 }
 
 impl Tally {
     /// Counts one case that agrees.
     fn count(&mut self, number: u32, verdict: &Verdict) {
         self.cases += 1;
-        self.numbers[number as usize] += 1;
+        if number != 0 {
+            *self.refused.entry(number).or_default() += 1;
+        }
         match verdict {
-            Verdict::Class(class) => self.classes[*class] += 1,
-            _ => self.same += 1,
+            Verdict::Same => self.same += 1,
+            Verdict::NotAsked => self.not_asked += 1,
+            Verdict::Class(class) => *self.classes.entry(*class).or_default() += 1,
+            Verdict::Other(_) => unreachable!("such a case differs"),
         }
     }
-}
 
-impl Tally {
+    /// How many cases were answered.
+    pub fn answered(&self) -> u64 {
+        self.cases - self.refused.values().sum::<u64>()
+    }
+
     /// Adds the cases of another run.
     pub fn add(&mut self, other: &Tally) {
         self.cases += other.cases;
         self.same += other.same;
-        self.numbers.iter_mut().zip(other.numbers).for_each(|(sum, n)| *sum += n);
-        self.classes.iter_mut().zip(other.classes).for_each(|(sum, n)| *sum += n);
+        self.not_asked += other.not_asked;
+        other.refused.iter().for_each(|(n, more)| *self.refused.entry(*n).or_default() += more);
+        other.classes.iter().for_each(|(n, more)| *self.classes.entry(*n).or_default() += more);
     }
 }
 
 impl Display for Tally {
     fn fmt(&self, f: &mut Formatter<'_>) -> std::fmt::Result {
-        writeln!(f, "{} cases agree: {} answered", self.cases, self.numbers[0])?;
-        for refusal in fontrisc::Refusal::ALL {
-            let count = self.numbers[refusal.number() as usize];
-            if count > 0 {
-                writeln!(f, "  {count} {refusal}")?;
-            }
+        writeln!(f, "{} cases agree: {} answered", self.cases, self.answered())?;
+        for (number, count) in &self.refused {
+            let name = Refusal::of(*number).map_or("of no refusal's number", Refusal::name);
+            writeln!(f, "  {count} {name}")?;
         }
-        write!(f, "the original: {} the same, {} not asked", self.same, self.classes[0])?;
-        for (class, count) in self.classes.iter().enumerate().skip(1) {
-            if *count > 0 {
-                write!(f, ", {count} in class {class}")?;
-            }
-        }
-        Ok(())
+        write!(f, "the original: {} the same, {} not asked", self.same, self.not_asked)?;
+        self.classes.iter().try_for_each(|(class, count)| write!(f, ", {count} in class {class}"))
     }
 }
 
@@ -111,8 +114,15 @@ impl Display for Difference {
     }
 }
 
+/// What a run comes to: its tally, or the first difference.
+pub type Ran = Result<Tally, Box<Difference>>;
+
 /// Makes a difference small.
-fn found<C: Comparison>(comparison: &mut C, case: &C::Case, origin: String) -> Box<Difference> {
+fn shrunk_difference<C: Comparison>(
+    comparison: &mut C,
+    case: &C::Case,
+    origin: String,
+) -> Box<Difference> {
     let differs = |outcome: Outcome| matches!(outcome, Outcome::Differs(_));
     let smallest = shrink(case, |smaller| differs(comparison.compare(smaller)));
     let answers = match comparison.compare(&smallest) {
@@ -153,17 +163,17 @@ impl Chosen {
 pub fn by_chance<C: Comparison>(
     comparison: &mut C,
     chosen: Chosen,
-    made: impl Fn(&mut Dice) -> C::Case,
-) -> Result<Tally, Box<Difference>> {
+    random_case: impl Fn(&mut Dice) -> C::Case,
+) -> Ran {
     let mut tally = Tally::default();
     let end = chosen.end().expect("each case has a number");
     for n in chosen.from..end {
-        let case = made(&mut dice(chosen.seed, n));
+        let case = random_case(&mut dice(chosen.seed, n));
         match comparison.compare(&case) {
             Outcome::Agrees(number, verdict) => tally.count(number, &verdict),
             Outcome::Differs(_) => {
                 let origin = format!("seed {}, case {n}", chosen.seed);
-                return Err(found(comparison, &case, origin));
+                return Err(shrunk_difference(comparison, &case, origin));
             }
         }
     }
@@ -171,16 +181,13 @@ pub fn by_chance<C: Comparison>(
 }
 
 /// Compares cases that are listed.
-pub fn listed<C: Comparison>(
-    comparison: &mut C,
-    cases: impl Iterator<Item = C::Case>,
-) -> Result<Tally, Box<Difference>> {
+pub fn listed<C: Comparison>(comparison: &mut C, cases: impl Iterator<Item = C::Case>) -> Ran {
     let mut tally = Tally::default();
     for (n, case) in cases.enumerate() {
         match comparison.compare(&case) {
             Outcome::Agrees(number, verdict) => tally.count(number, &verdict),
             Outcome::Differs(_) => {
-                return Err(found(comparison, &case, format!("listed case {n}")));
+                return Err(shrunk_difference(comparison, &case, format!("listed case {n}")));
             }
         }
     }
@@ -199,11 +206,7 @@ pub const PARTS: &str = "1 a OR AND = < + - * ^ ! IS NOT NULL NAN ( ) , .";
 ///
 /// Each is read twice: into a table with room for every row, where the original
 /// is asked too, and into one of a length that goes round from 0 upwards.
-pub fn every_string<S: Reads>(
-    side: &S,
-    of: &str,
-    longest: usize,
-) -> Result<Tally, Box<Difference>> {
+pub fn every_string<S: Reads>(side: &S, of: &str, longest: usize) -> Ran {
     let made = words(of);
     let mut comparison = Parse::of(side);
     let mut tally = Tally::default();
@@ -220,24 +223,24 @@ fn strings_of<S: Reads>(
     length: usize,
     tally: &mut Tally,
 ) -> Result<(), Box<Difference>> {
-    let kinds = made.tokens.len() / 3;
-    let ample = 3 * length + 2;
+    let choices = made.tokens.as_chunks().0;
+    let ample = ROW_WIDTH * (length + 1) - 1;
     let mut digits = vec![0; length];
-    let mut tokens = made.tokens[..3].repeat(length);
-    for n in 0..(kinds as u64).pow(length as u32) {
+    let mut string = vec![choices[0]; length];
+    for n in 0..(choices.len() as u64).pow(length as u32) {
         if n > 0 {
-            next_string(&mut digits, &mut tokens, made);
+            next_string(&mut digits, &mut string, choices);
         }
         for asked in [true, false] {
             let slots = if asked { ample } else { n as usize % ample };
-            match comparison.lend(&made.text, &tokens, slots, asked) {
+            match comparison.lend(&made.text, string.as_flattened(), slots, asked) {
                 Outcome::Agrees(number, verdict) if asked => tally.count(number, &verdict),
                 Outcome::Agrees(..) => {}
                 Outcome::Differs(_) => {
-                    let text = made.text.clone();
-                    let case = parse::Case { text, tokens: tokens.clone(), slots };
+                    let (text, tokens) = (made.text.clone(), string.concat());
+                    let case = parse::Case { text, tokens, slots };
                     let origin = format!("string {n} of length {length}");
-                    return Err(found(comparison, &case, origin));
+                    return Err(shrunk_difference(comparison, &case, origin));
                 }
             }
         }
@@ -245,13 +248,15 @@ fn strings_of<S: Reads>(
     Ok(())
 }
 
-/// Goes on to the next string, the first token running fastest.
-fn next_string(digits: &mut [usize], tokens: &mut [u32], made: &Tokens) {
-    let kinds = made.tokens.len() / 3;
-    for (place, digit) in digits.iter_mut().enumerate() {
-        *digit = (*digit + 1) % kinds;
-        let token = &made.tokens[3 * *digit..3 * *digit + 3];
-        tokens[3 * place..3 * place + 3].copy_from_slice(token);
+/// A token in numbers.
+type Token = [u32; TOKEN_WIDTH];
+
+/// Goes on to the next string, the first token running fastest. `digits` are the
+/// numbers of its tokens among the choices.
+fn next_string(digits: &mut [usize], string: &mut [Token], choices: &[Token]) {
+    for (digit, token) in digits.iter_mut().zip(string) {
+        *digit = (*digit + 1) % choices.len();
+        *token = choices[*digit];
         if *digit > 0 {
             return;
         }

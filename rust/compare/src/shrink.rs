@@ -1,5 +1,6 @@
 //! Small cases from large ones.
 
+use oracle::layout::{ROW_WIDTH, TOKEN_WIDTH};
 use std::ops::Range;
 
 /// A case that can be made smaller.
@@ -33,12 +34,12 @@ pub fn cuts(count: usize) -> impl Iterator<Item = Range<usize>> {
 }
 
 /// Numbers to try in the place of a larger one: none of it, half of it, three
-/// quarters and so on, three less and one less. So few steps lead to the smallest
+/// quarters and so on, a row less and one less. So few steps lead to the smallest
 /// number that will do, however large the first one is.
 pub fn lower(number: usize) -> impl Iterator<Item = usize> {
     let parts = std::iter::successors(Some(number), |part| Some(part / 2));
     let tries = parts.take_while(|part| *part > 1).map(move |part| number - part);
-    let near = [number.saturating_sub(3), number.saturating_sub(1)];
+    let near = [number.saturating_sub(ROW_WIDTH), number.saturating_sub(1)];
     tries.chain(near).filter(move |n| *n < number)
 }
 
@@ -82,12 +83,14 @@ fn used(length: usize, spans: &[Span]) -> Vec<bool> {
 
 /// A text and a token table over it without the bytes that no token uses.
 pub fn packed_tokens(text: &[u8], tokens: &[u32]) -> Option<(Vec<u8>, Vec<u32>)> {
-    let spans = tokens.as_chunks::<3>().0.iter();
+    let spans = tokens.as_chunks::<TOKEN_WIDTH>().0.iter();
     let spans = spans.map(|[_, start, length]| (u64::from(*start), u64::from(*length)));
     let (text, spans) = packed(text, &spans.collect::<Vec<_>>())?;
     let mut tokens = tokens.to_vec();
-    for (token, (start, length)) in tokens.chunks_exact_mut(3).zip(spans) {
-        token[1..].copy_from_slice(&[start as u32, length as u32]);
+    for ([_, span @ ..], (start, length)) in
+        tokens.as_chunks_mut::<TOKEN_WIDTH>().0.iter_mut().zip(spans)
+    {
+        *span = [start as u32, length as u32];
     }
     Some((text, tokens))
 }
@@ -95,7 +98,7 @@ pub fn packed_tokens(text: &[u8], tokens: &[u32]) -> Option<(Vec<u8>, Vec<u32>)>
 /// Token tables with one span made shorter, at its end or at its start, or moved
 /// to the front: of spans that fit, as the bytes of others say nothing.
 pub fn smaller_spans<'a>(text: &'a [u8], tokens: &'a [u32]) -> impl Iterator<Item = Vec<u32>> + 'a {
-    let spans = tokens.as_chunks::<3>().0.iter().enumerate();
+    let spans = tokens.as_chunks::<TOKEN_WIDTH>().0.iter().enumerate();
     let fits = |start: u32, length: u32| start as usize + length as usize <= text.len();
     let fitting = spans.filter(move |(_, [_, start, length])| fits(*start, *length));
     let smaller = fitting.flat_map(|(n, [_, start, length])| {
@@ -106,7 +109,7 @@ pub fn smaller_spans<'a>(text: &'a [u8], tokens: &'a [u32]) -> impl Iterator<Ite
     });
     smaller.map(|(n, span)| {
         let mut tokens = tokens.to_vec();
-        tokens[3 * n + 1..3 * n + 3].copy_from_slice(&span);
+        tokens.as_chunks_mut::<TOKEN_WIDTH>().0[n][1..].copy_from_slice(&span);
         tokens
     })
 }

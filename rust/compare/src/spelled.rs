@@ -1,11 +1,12 @@
 //! The comparison of `spelled`.
 
 use crate::entries::{Reads, Rules};
-use crate::included::Verdict;
+use crate::original::Verdict;
 use crate::run::{Comparison, Outcome};
 use crate::shrink::{Shrinks, cuts, lower, packed_tokens, smaller_spans};
 use crate::tokens;
 use oracle::cases::Dice;
+use oracle::layout::{TOKEN_WIDTH, token_count};
 use std::fmt::{Display, Formatter};
 
 /// What `spelled` is lent, and the token asked for.
@@ -20,12 +21,17 @@ pub struct Case {
 }
 
 /// Makes a case by chance: tables of every sort, bad ones included.
-pub fn made(dice: &mut Dice) -> Case {
-    let table = if dice.below(2) == 0 { tokens::bad_table(dice) } else { tokens::made(dice) };
-    let count = table.tokens.len() / 3;
+pub fn random_case(dice: &mut Dice) -> Case {
+    let table =
+        if dice.below(2) == 0 { tokens::bad_table(dice) } else { tokens::random_case(dice) };
+    let count = token_count(&table.tokens);
     let n = match dice.below(12) {
         0 => count,
-        1 => dice.pick(&[usize::MAX, usize::MAX / 3, usize::MAX / 3 + 1, 1 << 32, 1 << 62]),
+        1 => {
+            // The place of such a token's numbers would be past all that can be counted.
+            let first = usize::MAX / TOKEN_WIDTH;
+            dice.pick(&[usize::MAX, first, first + 1, 1 << 32, 1 << 62])
+        }
         2 => count + dice.below(5),
         _ => dice.below(count.max(1)),
     };
@@ -42,7 +48,7 @@ impl<S: Reads> Comparison for Spelled<'_, S> {
         let ours = self.0.spelled(&case.text, &case.tokens, case.n);
         let rules = Rules.spelled(&case.text, &case.tokens, case.n);
         if ours == rules {
-            Outcome::Agrees(0, Verdict::Class(0))
+            Outcome::Agrees(0, Verdict::NotAsked)
         } else {
             Outcome::Differs(format!("answer: {ours:?}; by the rules {rules:?}"))
         }
@@ -52,10 +58,10 @@ impl<S: Reads> Comparison for Spelled<'_, S> {
 impl Shrinks for Case {
     fn smaller(&self) -> Box<dyn Iterator<Item = Case> + '_> {
         // Tokens cut out before the one asked for change its number.
-        let tokens = cuts(self.tokens.len() / 3).map(|cut| {
+        let tokens = cuts(token_count(&self.tokens)).map(|cut| {
             let before = if cut.end <= self.n { cut.len() } else { 0 };
             let mut tokens = self.tokens.clone();
-            tokens.drain(3 * cut.start..3 * cut.end);
+            tokens.drain(TOKEN_WIDTH * cut.start..TOKEN_WIDTH * cut.end);
             Case { tokens, n: self.n - before, ..self.clone() }
         });
         let ragged = self

@@ -1,12 +1,13 @@
 //! The comparison of `split`.
 
 use crate::entries::{Rules, Splits};
-use crate::included::{self, Verdict};
 use crate::lent::Lent;
+use crate::original::{self, Verdict};
 use crate::predicates;
 use crate::run::{Comparison, Outcome};
 use crate::shrink::{Shrinks, lower};
 use oracle::cases::{Dice, Predicate};
+use oracle::layout::ROW_WIDTH;
 use std::fmt::{Display, Formatter};
 
 /// What `split` is lent: a predicate, and two lists of so many places.
@@ -23,8 +24,8 @@ pub struct Case {
 }
 
 /// Makes a case by chance.
-pub fn made(dice: &mut Dice) -> Case {
-    let made = predicates::made(dice);
+pub fn random_case(dice: &mut Dice) -> Case {
+    let made = predicates::random_predicate(dice);
     let (clauses, literals) = predicates::counts(&made);
     let literals = near(dice, literals);
     let ends = near(dice, clauses);
@@ -79,13 +80,13 @@ impl<'s, S: Splits> Split<'s, S> {
     /// How an answer stands to the original's.
     fn verdict(&self, case: &Case, (number, clauses, literals): (u32, u64, u64)) -> Verdict {
         if number != 0 {
-            return Verdict::Class(0);
+            return Verdict::NotAsked;
         }
-        let Some(made) = included::clauses(&case.text, &case.rows, clauses) else {
-            return Verdict::Class(0);
+        let Some(made) = original::clauses(&case.text, &case.rows, clauses) else {
+            return Verdict::NotAsked;
         };
         let literals = &self.ours.literals.seen()[..literals as usize];
-        included::splitting(&made, literals, &self.ours.ends.seen()[..clauses as usize])
+        original::verdict_on_split(&made, literals, &self.ours.ends.seen()[..clauses as usize])
     }
 }
 
@@ -141,5 +142,5 @@ impl Display for Case {
 /// Writes a predicate, a line for its text and one for its rows.
 pub fn write_predicate(f: &mut Formatter<'_>, text: &[u8], rows: &[u64]) -> std::fmt::Result {
     writeln!(f, "text of {} bytes: \"{}\"", text.len(), text.escape_ascii())?;
-    writeln!(f, "rows: {:?}", rows.chunks(3).collect::<Vec<_>>())
+    writeln!(f, "rows: {:?}", rows.chunks(ROW_WIDTH).collect::<Vec<_>>())
 }

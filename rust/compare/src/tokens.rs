@@ -3,11 +3,13 @@
 
 use crate::maker::*;
 use crate::parse::Case;
+use fontrisc::token::*;
 use oracle::cases::Dice;
+use oracle::layout::{TOKEN_WIDTH, token_count};
 use oracle::plain::limit;
 
 /// Makes a case by chance.
-pub fn made(dice: &mut Dice) -> Case {
+pub fn random_case(dice: &mut Dice) -> Case {
     match dice.below(200) {
         0..80 => grown(dice, 40, 8),
         80..120 => {
@@ -35,22 +37,22 @@ fn grown(dice: &mut Dice, budget: usize, depth: usize) -> Case {
 /// A case with a few tokens dropped, doubled, replaced, swapped or cut off.
 fn damaged(dice: &mut Dice, mut case: Case) -> Case {
     for _ in 0..1 + dice.below(3) {
-        let count = case.tokens.len() / 3;
+        let count = token_count(&case.tokens);
         if count == 0 {
             break;
         }
-        let at = 3 * dice.below(count);
+        let at = TOKEN_WIDTH * dice.below(count);
         match dice.below(6) {
-            0 => drop(case.tokens.drain(at..at + 3)),
+            0 => drop(case.tokens.drain(at..at + TOKEN_WIDTH)),
             1 => {
-                let token = case.tokens[at..at + 3].to_vec();
+                let token = case.tokens[at..at + TOKEN_WIDTH].to_vec();
                 case.tokens.splice(at..at, token);
             }
-            2 => case.tokens[at] = 1 + dice.below(32) as u32,
-            3 => case.tokens[at] = 1 + dice.below(88) as u32,
+            2 => case.tokens[at] = 1 + dice.below(SEMICOLON as usize) as u32,
+            3 => case.tokens[at] = 1 + dice.below(WRITE as usize) as u32,
             4 => {
-                let other = 3 * dice.below(count);
-                (0..3).for_each(|n| case.tokens.swap(at + n, other + n));
+                let other = TOKEN_WIDTH * dice.below(count);
+                (0..TOKEN_WIDTH).for_each(|n| case.tokens.swap(at + n, other + n));
             }
             _ => case.tokens.truncate(at),
         }
@@ -63,8 +65,8 @@ fn soup(dice: &mut Dice) -> Case {
     let count = dice.below(24);
     let mut maker = Maker::new(dice);
     for _ in 0..count {
-        let most = if maker.dice.below(10) == 0 { 88 } else { 31 };
-        let kind = 1 + maker.dice.below(most) as u32;
+        let last = if maker.dice.below(10) == 0 { WRITE } else { PERIOD };
+        let kind = 1 + maker.dice.below(last as usize) as u32;
         maker.push(kind);
     }
     maker.done()
@@ -100,14 +102,14 @@ fn ladder(dice: &mut Dice) -> Case {
         match alone {
             0 => maker.push(MINUS),
             1 => maker.push(NOT),
-            2 => maker.all(&[NUMBER, 19]),
+            2 => maker.all(&[NUMBER, CARET]),
             3 => {
-                maker.push(OPEN);
-                closing.push(CLOSE);
+                maker.push(OPEN_PAREN);
+                closing.push(CLOSE_PAREN);
             }
             4 => {
-                maker.all(&[IDENT, OPEN]);
-                closing.push(CLOSE);
+                maker.all(&[IDENT, OPEN_PAREN]);
+                closing.push(CLOSE_PAREN);
             }
             _ => minimum = maker.step(minimum, &mut closing),
         }
@@ -127,10 +129,10 @@ fn ladder(dice: &mut Dice) -> Case {
 pub fn bad_table(dice: &mut Dice) -> Case {
     let mut case = grown(dice, 12, 4);
     let length = case.text.len() as u32;
-    let at = 3 * dice.below(case.tokens.len() / 3);
-    let token = &mut case.tokens[at..at + 3];
+    let at = TOKEN_WIDTH * dice.below(token_count(&case.tokens));
+    let token = &mut case.tokens[at..at + TOKEN_WIDTH];
     match dice.below(10) {
-        0 => token[0] = dice.pick(&[0, 88, 89, 90, 1 << 8, 1 << 31, u32::MAX]),
+        0 => token[0] = dice.pick(&[0, WRITE, WRITE + 1, WRITE + 2, 1 << 8, 1 << 31, u32::MAX]),
         1 => (token[1], token[2]) = dice.pick(&[(length, 0), (length + 1, 0), (length, 1)]),
         2 => (token[1], token[2]) = dice.pick(&[(0, length), (0, length + 1), (1, length)]),
         3 => token[1] = u32::MAX - dice.below(3) as u32,
@@ -141,7 +143,7 @@ pub fn bad_table(dice: &mut Dice) -> Case {
             let wrapped = dice.below(length as usize + 1) as u32;
             (token[1], token[2]) = (start, wrapped.wrapping_sub(start));
         }
-        6 => case.tokens.push(dice.below(90) as u32),
+        6 => case.tokens.push(dice.below(WRITE as usize + 2) as u32),
         7 => drop(case.tokens.pop()),
         8 => case.tokens.truncate(at + 1 + dice.below(2)),
         _ => case.text.resize(limit::TEXT + dice.below(3) - 1, b'0'),
@@ -155,7 +157,7 @@ fn long(dice: &mut Dice) -> Case {
     let depth = 3 + dice.below(4);
     let mut maker = Maker::new(dice);
     maker.chain(budget, depth);
-    maker.tokens.truncate(3 * limit::TOKENS);
+    maker.tokens.truncate(TOKEN_WIDTH * limit::TOKENS);
     if maker.dice.below(4) == 0 {
         let length = maker.dice.below(limit::TEXT);
         let digits = maker.dice.pick(b"09x");
@@ -178,7 +180,7 @@ fn at_the_limits(dice: &mut Dice) -> Case {
             (0..postfixes).for_each(|_| maker.push(EXCLAMATION));
         }
         _ => {
-            let kind = maker.dice.pick(&[OPEN, MINUS, NUMBER, NOT]);
+            let kind = maker.dice.pick(&[OPEN_PAREN, MINUS, NUMBER, NOT]);
             let count = limit::TOKENS + maker.dice.below(3) - 1;
             (0..count).for_each(|_| maker.push(kind));
         }
@@ -188,7 +190,7 @@ fn at_the_limits(dice: &mut Dice) -> Case {
     }
     let mut case = maker.done();
     if dice.below(6) == 0 {
-        case.tokens.extend([NUMBER, 0, 1].iter().take(1 + dice.below(3)));
+        case.tokens.extend([NUMBER, 0, 1].iter().take(1 + dice.below(TOKEN_WIDTH)));
     }
     case
 }
@@ -196,12 +198,12 @@ fn at_the_limits(dice: &mut Dice) -> Case {
 /// A call: n arguments are 2n + 2 tokens and n + 1 rows, so 2,047 fill both.
 fn arguments(maker: &mut Maker<'_>) {
     let arguments = 2_044 + maker.dice.below(6);
-    maker.all(&[IDENT, OPEN]);
+    maker.all(&[IDENT, OPEN_PAREN]);
     for n in 0..arguments {
         let kinds: &[u32] = if n > 0 { &[COMMA, IDENT] } else { &[IDENT] };
         maker.all(kinds);
     }
-    maker.push(CLOSE);
+    maker.push(CLOSE_PAREN);
 }
 
 /// A chain: n qualified names are 4n - 1 tokens and 2n - 1 rows.
@@ -215,7 +217,7 @@ fn names(maker: &mut Maker<'_>) {
         maker.all(&[IDENT, PERIOD, IDENT]);
     }
     if maker.dice.below(2) == 0 {
-        let kind = maker.dice.pick(&[EXCLAMATION, CLOSE, IDENT]);
+        let kind = maker.dice.pick(&[EXCLAMATION, CLOSE_PAREN, IDENT]);
         maker.push(kind);
     }
 }
@@ -224,7 +226,7 @@ fn names(maker: &mut Maker<'_>) {
 fn long_number(maker: &mut Maker<'_>) {
     let length = limit::TEXT + maker.dice.below(3) - 1;
     maker.text.resize(length, b'0');
-    let last = 3 * maker.dice.below(maker.count());
+    let n = maker.dice.below(maker.count());
     let start = maker.dice.below(100) as u32;
-    maker.tokens[last..last + 3].copy_from_slice(&[NUMBER, start, length as u32 - start]);
+    maker.tokens.as_chunks_mut().0[n] = [NUMBER, start, length as u32 - start];
 }

@@ -1,18 +1,19 @@
 //! What the comparison says of a split where the original's list is not the
 //! format's: the smallest inputs of docs/DIFFERENCES.md.
 
-use compare::included::{self, Verdict};
-use oracle::cases::{Tree, and, equal, lay, not, or};
+use compare::original::{self, Verdict};
+use fontrisc::predicate;
+use oracle::cases::{Tree, and, equal, not, or, predicate_of, unary};
 use oracle::plain;
 
 /// How the original's clauses of a tree stand to the format's.
 fn verdict(tree: &Tree) -> Verdict {
-    let made = lay(tree);
+    let made = predicate_of(tree);
     let (literals, ends) =
         plain::split_into(&made.text, &made.rows, 99, 99).expect("a small predicate");
-    let theirs = included::clauses(&made.text, &made.rows, ends.len() as u64);
+    let theirs = original::clauses(&made.text, &made.rows, ends.len() as u64);
     let narrow = |list: Vec<u64>| list.into_iter().map(|n| n as u32).collect::<Vec<_>>();
-    included::splitting(&theirs.expect("few clauses"), &narrow(literals), &narrow(ends))
+    original::verdict_on_split(&theirs.expect("few clauses"), &narrow(literals), &narrow(ends))
 }
 
 #[test]
@@ -25,7 +26,7 @@ fn what_is_left_above_atoms() {
 
 #[test]
 fn what_is_rewritten_below_atoms() {
-    let plus = |tree: Tree| Tree::Unary(18, Box::new(tree));
+    let plus = |tree: Tree| unary(predicate::IDENTITY, tree);
     let [a, b, c] = [0, 1, 2].map(Tree::Column);
     let twice = not(not(c.clone()));
     assert_eq!(verdict(&plus(not(c.clone()))), Verdict::Same);

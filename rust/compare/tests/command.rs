@@ -55,7 +55,7 @@ fn a_wrong_number_is_named() {
 #[test]
 fn a_run_that_is_not_there_is_said() {
     for line in ["spelled --edges", "parse --seed 1", "all --cases 1 --from 1 --seed 1"] {
-        assert!(complaint(line).ends_with("has no such run, or the library no such entry"));
+        assert!(complaint(line).ends_with("has no such run"));
     }
 }
 

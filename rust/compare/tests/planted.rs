@@ -1,14 +1,17 @@
 //! The comparison itself put to the test: the rules with one fault in them must
 //! be found out, and the case made small.
 
-use compare::entries::{LooksUp, Reads, Rules, Splits};
+use compare::entries::{LooksUp, Reads, Rules, Splits, write_rows};
 use compare::lookup::{self, Lookup, Value};
 use compare::parse::Parse;
 use compare::run::{self, Chosen, Comparison, Difference};
 use compare::spelled::{self, Spelled};
 use compare::split::{self, Split};
 use compare::tokens;
+use fontrisc::{predicate, syntax};
 use oracle::cases::Dice;
+use oracle::layout::{Constant, ROW_WIDTH, TOKEN_WIDTH, row_count, rows_of};
+use oracle::plain::refusal::*;
 use oracle::plain::{self, limit};
 
 /// The rules, with something done to each answer.
@@ -17,10 +20,10 @@ struct Faulty<F>(F);
 /// Looks for a difference that must be there.
 fn found<C: Comparison + Send>(
     mut comparison: C,
-    made: impl Fn(&mut Dice) -> C::Case + Send,
+    random_case: impl Fn(&mut Dice) -> C::Case + Send,
 ) -> Difference {
     let chosen = Chosen { seed: 5, from: 0, cases: 200_000 };
-    let run = oracle::deep(|| run::by_chance(&mut comparison, chosen, made));
+    let run = oracle::on_large_stack(|| run::by_chance(&mut comparison, chosen, random_case));
     *run.expect_err("the fault was not found")
 }
 
@@ -55,30 +58,27 @@ fn parse_fault(
     fault: impl Fn(&[u8], &[u32], &mut [u64], (u32, u64)) -> (u32, u64) + Send + Sync,
 ) {
     let side = Faulty(fault);
-    let difference = found(Parse::of(&side), tokens::made);
+    let difference = found(Parse::of(&side), tokens::random_case);
     println!("{difference}");
-    assert!(numbers(&difference, "tokens:") <= 3 * tokens, "{difference}");
+    assert!(numbers(&difference, "tokens:") <= TOKEN_WIDTH * tokens, "{difference}");
     assert!(bytes(&difference) <= text, "{difference}");
 }
 
 #[test]
 fn one_level_too_many() {
     parse_fault((129, 0), |text, tokens, rows, said| {
-        match plain::parse(text, tokens, rows.len() / 3, limit::LEVELS + 1) {
-            Ok(made) => {
-                rows[..3 * made.len()].copy_from_slice(made.as_flattened());
-                (0, made.len() as u64)
-            }
-            Err(_) => said,
-        }
+        let deeper = plain::parse(text, tokens, row_count(rows), limit::LEVELS + 1);
+        deeper.map_or(said, |made| (0, write_rows(rows, &made)))
     });
 }
 
 #[test]
 fn a_wrong_kind_of_row() {
     parse_fault((3, 1), |_, _, rows, (number, at)| {
-        let written = if number == 0 { 3 * at as usize } else { 0 };
-        rows[..written].chunks_mut(3).for_each(|row| row[0] -= u64::from(row[0] == 24));
+        let written = if number == 0 { ROW_WIDTH * at as usize } else { 0 };
+        for row in rows[..written].chunks_mut(ROW_WIDTH) {
+            row[0] -= u64::from(row[0] == syntax::LESS_THAN_OR_EQUAL);
+        }
         (number, at)
     });
 }
@@ -96,8 +96,8 @@ fn a_row_that_is_not_cleared() {
 #[test]
 fn a_number_written_after_the_rows() {
     parse_fault((1, 0), |_, _, rows, (number, at)| {
-        if number == 0 && rows.len() > 3 * at as usize {
-            rows[3 * at as usize] = 0;
+        if let (0, Some(after)) = (number, rows.get_mut(ROW_WIDTH * at as usize)) {
+            *after = 0;
         }
         (number, at)
     });
@@ -105,20 +105,20 @@ fn a_number_written_after_the_rows() {
 
 #[test]
 fn no_room_one_token_early() {
-    parse_fault((1, 0), |_, _, _, (number, at)| (number, if number == 9 { at - 1 } else { at }));
+    parse_fault((1, 0), |_, _, _, (number, at)| (number, at - u64::from(number == NO_ROOM)));
 }
 
 #[test]
 fn a_span_that_wraps_round() {
     parse_fault((1, 0), |text, tokens, rows, said| {
         let mut fitted = tokens.to_vec();
-        for token in fitted.chunks_exact_mut(3) {
+        for token in fitted.chunks_exact_mut(TOKEN_WIDTH) {
             if token[1].wrapping_add(token[2]) <= text.len() as u32 {
                 token[1..].fill(0);
             }
         }
         let wrapped = plain::table_fault(text, &fitted).is_none();
-        if said.0 == 2 && wrapped { Rules.parse(text, &fitted, rows) } else { said }
+        if said.0 == BAD_TABLE && wrapped { Rules.parse(text, &fitted, rows) } else { said }
     });
 }
 
@@ -128,8 +128,8 @@ fn a_large_integer_taken_for_a_float() {
         let (start, length) = plain::spelled(text, tokens, at as usize);
         let bytes = &text[start as usize..][..length as usize];
         let digits = !bytes.is_empty() && bytes.iter().all(u8::is_ascii_digit);
-        if number == 7 && digits && tokens.len() == 3 && rows.len() >= 3 {
-            rows[0] = 3;
+        if number == BAD_NUMBER && digits && tokens.len() == TOKEN_WIDTH && row_count(rows) > 0 {
+            rows[0] = syntax::FLOAT;
             return (0, 1);
         }
         (number, at)
@@ -139,8 +139,9 @@ fn a_large_integer_taken_for_a_float() {
 #[test]
 fn an_empty_part_at_the_start() {
     let side = Faulty(|_: &[u8], _: &[u32], _: &mut [u64], said| said);
-    let difference = found(Spelled(&side), spelled::made);
-    assert_eq!((numbers(&difference, "tokens:"), bytes(&difference)), (3, 1), "{difference}");
+    let difference = found(Spelled(&side), spelled::random_case);
+    assert_eq!(numbers(&difference, "tokens:"), TOKEN_WIDTH, "{difference}");
+    assert_eq!(bytes(&difference), 1, "{difference}");
 }
 
 /// What is done to an answer of `split`.
@@ -165,9 +166,9 @@ fn split_fault(
     fault: impl Fn(&mut [u32], &mut [u32], (u32, u64, u64)) -> (u32, u64, u64) + Send + Sync,
 ) {
     let side = FaultySplit(fault);
-    let difference = found(Split::of(&side), split::made);
+    let difference = found(Split::of(&side), split::random_case);
     println!("{difference}");
-    assert!(numbers(&difference, "rows:") <= 3 * most, "{difference}");
+    assert!(numbers(&difference, "rows:") <= ROW_WIDTH * most, "{difference}");
     assert_eq!(bytes(&difference), 0, "{difference}");
 }
 
@@ -184,7 +185,7 @@ fn literals_in_another_order() {
 #[test]
 fn a_list_written_before_it_is_refused() {
     split_fault(1, |literals, _, said| {
-        if said.0 == 12 && literals.len() > 1 {
+        if said.0 == NO_LIST && literals.len() > 1 {
             literals[0] = 0;
         }
         said
@@ -194,13 +195,13 @@ fn a_list_written_before_it_is_refused() {
 #[test]
 fn more_literals_than_allowed() {
     // A NOT over two chains of ORs, of 33 and 32 columns.
-    split_fault(130, |_, _, said| if said.0 == 11 { (0, 0, 0) } else { said });
+    split_fault(130, |_, _, said| if said.0 == TOO_MANY { (0, 0, 0) } else { said });
 }
 
 #[test]
 fn a_bad_row_placed_one_row_early() {
     split_fault(2, |_, _, (number, place, total)| {
-        (number, if number == 10 { place.saturating_sub(1) } else { place }, total)
+        (number, if number == BAD_TREE { place.saturating_sub(1) } else { place }, total)
     });
 }
 
@@ -211,13 +212,13 @@ struct FaultyLookup;
 impl LooksUp for FaultyLookup {
     fn lookup(&self, text: &[u8], rows: &[u64], clause: usize) -> (u32, u64, u64) {
         let (number, column, count) = Rules.lookup(text, rows, clause);
-        let nulls = rows.chunks(3).filter(|row| row[0] == 1).count() as u64;
+        let nulls = rows_of(rows).iter().filter(|row| row.kind == predicate::NULL).count() as u64;
         if number == 0 { (number, column, count + nulls) } else { (number, column, count) }
     }
 
-    fn value(&self, text: &[u8], rows: &[u64], clause: usize, n: usize) -> (u32, [u64; 3]) {
+    fn value(&self, text: &[u8], rows: &[u64], clause: usize, n: usize) -> (u32, Constant) {
         match Rules.value(text, rows, clause, n) {
-            (0, [4, bits, 0]) if bits == 1 << 63 => (0, [4, 0, 0]),
+            (0, [predicate::FLOAT, bits, 0]) if bits == 1 << 63 => (0, [predicate::FLOAT, 0, 0]),
             said => said,
         }
     }
@@ -225,15 +226,15 @@ impl LooksUp for FaultyLookup {
 
 #[test]
 fn a_value_that_is_not_given_is_counted() {
-    let difference = found(Lookup(&FaultyLookup), lookup::made);
+    let difference = found(Lookup(&FaultyLookup), lookup::random_case);
     println!("{difference}");
-    assert!(numbers(&difference, "rows:") <= 9, "{difference}");
+    assert!(numbers(&difference, "rows:") <= 3 * ROW_WIDTH, "{difference}");
     assert!(difference.smallest.ends_with("clause 0, value 0"), "{difference}");
 }
 
 #[test]
 fn a_zero_that_loses_its_sign() {
-    let difference = found(Value(&FaultyLookup), lookup::made);
+    let difference = found(Value(&FaultyLookup), lookup::random_case);
     println!("{difference}");
-    assert!(numbers(&difference, "rows:") <= 9, "{difference}");
+    assert!(numbers(&difference, "rows:") <= 3 * ROW_WIDTH, "{difference}");
 }

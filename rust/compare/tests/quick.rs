@@ -1,11 +1,13 @@
 //! A quick run of every comparison. The command `compare` makes long ones.
 
-use compare::edges;
 use compare::entries::Library;
+use compare::lookup::{self, Lookup, Value};
 use compare::parse::Parse;
-use compare::run::{self, Chosen, Difference, Tally};
+use compare::run::{self, Chosen, Ran, Tally};
 use compare::spelled::{self, Spelled};
-use compare::tokens;
+use compare::split::{self, Split};
+use compare::{edges, predicates, tokens};
+use oracle::plain::refusal::*;
 
 /// Fewer where the code is not optimised.
 fn cases(most: u64) -> Chosen {
@@ -20,8 +22,8 @@ fn length(most: usize) -> usize {
 
 /// Runs a comparison on a large stack, as the original needs it, and fails at a
 /// difference.
-fn holds(work: impl FnOnce() -> Result<Tally, Box<Difference>> + Send) -> Tally {
-    match oracle::deep(work) {
+fn holds(work: impl FnOnce() -> Ran + Send) -> Tally {
+    match oracle::on_large_stack(work) {
         Ok(tally) => {
             println!("{tally}");
             tally
@@ -31,16 +33,17 @@ fn holds(work: impl FnOnce() -> Result<Tally, Box<Difference>> + Send) -> Tally 
 }
 
 /// Fails if an answer, or one of these refusals, never came up.
-fn came_up(tally: &Tally, numbers: &[usize]) {
-    for number in [&[0], numbers].concat() {
-        assert!(tally.numbers[number] > 0, "no case with {number}");
+fn came_up(tally: &Tally, refusals: &[u32]) {
+    assert_ne!(tally.answered(), 0, "no case was answered");
+    for number in refusals {
+        assert!(tally.refused.contains_key(number), "no case was refused with {number}");
     }
 }
 
 #[test]
 fn every_short_string() {
     let tally = holds(|| run::every_string(&Library, run::EVERY, length(4)));
-    came_up(&tally, &[3, 4, 5, 6, 7]);
+    came_up(&tally, &[END, NO_ATOM, WRONG_TOKEN, LEFT_OVER, BAD_NUMBER]);
     assert_eq!(tally.same, tally.cases);
 }
 
@@ -54,66 +57,57 @@ fn every_string_of_five_parts() {
 fn edges_of_parse() {
     let cases = edges::of_parse().into_iter();
     let tally = holds(|| run::listed(&mut Parse::of(&Library), cases));
-    came_up(&tally, &[1, 2, 3, 4, 6, 7, 8, 9]);
+    came_up(&tally, &[TOO_LONG, BAD_TABLE, END, NO_ATOM, LEFT_OVER, BAD_NUMBER, TOO_DEEP, NO_ROOM]);
 }
 
 #[test]
 fn parse_by_chance() {
-    let made = tokens::made;
-    let tally = holds(|| run::by_chance(&mut Parse::of(&Library), cases(500_000), made));
-    came_up(&tally, &[1, 2, 3, 4, 5, 6, 7, 8, 9]);
+    let tally =
+        holds(|| run::by_chance(&mut Parse::of(&Library), cases(500_000), tokens::random_case));
+    came_up(
+        &tally,
+        &[TOO_LONG, BAD_TABLE, END, NO_ATOM, WRONG_TOKEN, LEFT_OVER, BAD_NUMBER, TOO_DEEP, NO_ROOM],
+    );
 }
 
 #[test]
 fn spelled_by_chance() {
-    holds(|| run::by_chance(&mut Spelled(&Library), cases(300_000), spelled::made));
+    holds(|| run::by_chance(&mut Spelled(&Library), cases(300_000), spelled::random_case));
 }
 
-#[cfg(split)]
-mod splitting {
-    use super::*;
-    use compare::predicates;
-    use compare::split::{Split, made};
-
-    #[test]
-    fn edges_of_split() {
-        let tally = holds(|| {
-            let cases = edges::of_split().into_iter();
-            run::listed(&mut Split::of(&Library), cases)
-        });
-        came_up(&tally, &[1, 10, 11, 12]);
-    }
-
-    #[test]
-    fn every_small_tree() {
-        let atoms = length(4);
-        holds(|| run::listed(&mut Split::of(&Library), predicates::every_small(atoms)));
-    }
-
-    #[test]
-    fn split_by_chance() {
-        let tally = holds(|| run::by_chance(&mut Split::of(&Library), cases(30_000), made));
-        came_up(&tally, &[1, 10, 11, 12]);
-        assert_ne!(tally.classes[16], 0, "no atom was rewritten inside");
-    }
+#[test]
+fn edges_of_split() {
+    let tally = holds(|| {
+        let cases = edges::of_split().into_iter();
+        run::listed(&mut Split::of(&Library), cases)
+    });
+    came_up(&tally, &[TOO_LONG, BAD_TREE, TOO_MANY, NO_LIST]);
 }
 
-#[cfg(lookup)]
-mod lookups {
-    use super::*;
-    use compare::lookup::{Lookup, Value, made};
+#[test]
+fn every_small_tree() {
+    let atoms = length(4);
+    holds(|| run::listed(&mut Split::of(&Library), predicates::every_small(atoms)));
+}
 
-    #[test]
-    fn lookup_by_chance() {
-        let tally = holds(|| run::by_chance(&mut Lookup(&Library), cases(30_000), made));
-        came_up(&tally, &[1, 10, 11, 13, 14]);
-    }
+#[test]
+fn split_by_chance() {
+    let tally =
+        holds(|| run::by_chance(&mut Split::of(&Library), cases(30_000), split::random_case));
+    came_up(&tally, &[TOO_LONG, BAD_TREE, TOO_MANY, NO_LIST]);
+    assert!(tally.classes.contains_key(&16), "no atom was rewritten inside");
+}
 
-    #[test]
-    fn value_by_chance() {
-        let tally = holds(|| run::by_chance(&mut Value(&Library), cases(30_000), made));
-        came_up(&tally, &[1, 10, 11, 13, 14]);
-    }
+#[test]
+fn lookup_by_chance() {
+    let tally = holds(|| run::by_chance(&mut Lookup(&Library), cases(30_000), lookup::random_case));
+    came_up(&tally, &[TOO_LONG, BAD_TREE, TOO_MANY, NOT_LOOKUP, NO_SUCH]);
+}
+
+#[test]
+fn value_by_chance() {
+    let tally = holds(|| run::by_chance(&mut Value(&Library), cases(30_000), lookup::random_case));
+    came_up(&tally, &[TOO_LONG, BAD_TREE, TOO_MANY, NOT_LOOKUP, NO_SUCH]);
 }
 
 #[test]
@@ -127,7 +121,7 @@ fn all_entries_in_turn() {
 #[test]
 fn the_safe_face_says_the_same() {
     for n in 0..cases(30_000).cases {
-        let case = tokens::made(&mut run::dice(3, n));
+        let case = tokens::random_case(&mut run::dice(3, n));
         let (mut safe, mut plain) = (vec![1; case.slots], vec![1; case.slots]);
         let said = match fontrisc::parse(&case.text, &case.tokens, &mut safe) {
             Ok(rows) => (0, rows as u64),

@@ -2,13 +2,15 @@
 
 use compare::shrink::{lower, packed, shrink};
 use compare::{lookup, parse, split};
-use oracle::cases::{Tree, and, equal, lay, or, string, words};
+use fontrisc::predicate;
+use oracle::cases::{Tree, and, equal, or, predicate_of, string, words};
+use oracle::layout::{TOKEN_WIDTH, row_at, row_count, rows_of, table_of};
 use oracle::plain::{self, limit};
 
 /// The kinds of the rows that a case reads as; none if it is refused.
 fn kinds(case: &parse::Case) -> Vec<u64> {
     let rows = plain::parse(&case.text, &case.tokens, limit::ROWS, limit::LEVELS);
-    rows.unwrap_or_default().iter().map(|row| row[0]).collect()
+    rows.unwrap_or_default().iter().map(|row| row.kind).collect()
 }
 
 /// The kinds of the tokens that are left of a line if a row of a kind must stay.
@@ -17,7 +19,7 @@ fn left_of(line: &str, kind: u64) -> Vec<u32> {
     let case = parse::Case { text: made.text, tokens: made.tokens, slots: 99 };
     let smallest = shrink(&case, |smaller| kinds(smaller).contains(&kind));
     assert!(smallest.text.len() <= 2, "{smallest}");
-    smallest.tokens.chunks(3).map(|token| token[0]).collect()
+    smallest.tokens.chunks(TOKEN_WIDTH).map(|token| token[0]).collect()
 }
 
 #[test]
@@ -48,31 +50,34 @@ fn a_clause_goes_with_its_rows() {
     let c = || Tree::Column(3);
     let other = |n| or(Tree::Column(n), Tree::Column(n + 1));
     let tree = and(and(other(0), other(5)), or(equal(c(), string("free")), Tree::Column(9)));
-    let made = lay(&tree);
+    let made = predicate_of(&tree);
     let case = lookup::Case { text: made.text, rows: made.rows, clause: 2, n: 4 };
     let smallest = shrink(&case, |smaller| {
         let list = plain::split(&smaller.text, &smaller.rows).unwrap_or_default();
         let clause = list.get(smaller.clause);
-        clause.is_some_and(|list| smaller.rows[3 * (list[0] / 2) as usize] == 10)
+        clause.is_some_and(|list| {
+            row_at(&smaller.rows, list[0] as usize / 2).kind == predicate::EQUAL
+        })
     });
     assert_eq!((smallest.clause, smallest.n), (0, 0), "{smallest}");
-    assert_eq!((smallest.rows.len(), smallest.text.len()), (9, 0), "{smallest}");
+    assert_eq!((row_count(&smallest.rows), smallest.text.len()), (3, 0), "{smallest}");
 }
 
 #[test]
 fn strings_come_to_the_front() {
-    let made = lay(&equal(Tree::Column(0), string("handover")));
+    let made = predicate_of(&equal(Tree::Column(0), string("handover")));
     let text = [b"not this ", &made.text[..]].concat();
-    let mut rows = made.rows;
-    rows[4] += 9;
-    let case = split::Case { text, rows, literals: 1, ends: 1 };
+    let mut rows = rows_of(&made.rows);
+    rows[1].x += 9;
+    let case = split::Case { text, rows: table_of(&rows), literals: 1, ends: 1 };
     let ends_in_r = |case: &split::Case| {
-        let string = case.rows.chunks_exact(3).find(|row| row[0] == 5);
-        let end = string.map_or(0, |row| row[1] + row[2]);
+        let string = rows_of(&case.rows).into_iter().find(|row| row.kind == predicate::STRING);
+        let end = string.map_or(0, |row| row.x + row.y);
         end > 0 && case.text.get(end as usize - 1) == Some(&b'r')
     };
     let smallest = shrink(&case, ends_in_r);
-    assert_eq!((smallest.rows.len(), &smallest.text[..]), (3, &b"handover"[..]), "{smallest}");
+    assert_eq!(row_count(&smallest.rows), 1, "{smallest}");
+    assert_eq!(smallest.text, b"handover", "{smallest}");
 }
 
 #[test]

@@ -1,8 +1,8 @@
 //! The worked examples of docs/FORMAT.md, §12, and those at its limits, run on
 //! the library. The starred ones are proved as well, in the crate `worked`.
 
-use fontrisc::{Listed, Refusal, Refused, Value, lookup, parse, split, value_at};
-use oracle::cases::{Tokens, Tree, and, equal, float, is, lay, not, or, string, words};
+use fontrisc::{Listed, ROW_WIDTH, Refusal, Refused, Value, limit, lookup, parse, split, value_at};
+use oracle::cases::{Tokens, Tree, and, equal, float, is, not, or, predicate_of, string, words};
 
 /// A refusal.
 fn refused<T>(why: Refusal, place: usize) -> Result<T, Refused> {
@@ -16,8 +16,8 @@ fn read_into(made: &Tokens, numbers: usize) -> Result<Vec<u64>, Refused> {
     let answer = parse(&made.text, &made.tokens, &mut table);
     match answer {
         Ok(rows) => {
-            assert!(table[3 * rows..].iter().all(|n| *n == 77));
-            table.truncate(3 * rows);
+            assert!(table[ROW_WIDTH * rows..].iter().all(|n| *n == 77));
+            table.truncate(ROW_WIDTH * rows);
             Ok(table)
         }
         Err(why) => {
@@ -29,12 +29,12 @@ fn read_into(made: &Tokens, numbers: usize) -> Result<Vec<u64>, Refused> {
 
 /// What the library reads in words, with room enough.
 fn read(line: &str) -> Result<Vec<u64>, Refused> {
-    read_into(&words(line), 6_144)
+    read_into(&words(line), ROW_WIDTH * limit::ROWS)
 }
 
 #[test]
 fn accepted_expressions() {
-    let rows = |rows: &[[u64; 3]]| Ok(rows.concat());
+    let rows = |rows: &[[u64; ROW_WIDTH]]| Ok(rows.concat());
     let powers = [[2, 2, 0], [2, 3, 0], [2, 2, 0], [31, 1, 2], [31, 0, 3]];
     let rest = [[2, 4, 0], [2, 3, 0], [28, 5, 6], [27, 4, 7]];
     assert_eq!(read("2 ^ 3 ^ 2 - 4 * 3"), rows(&[&powers[..], &rest[..]].concat()));
@@ -80,19 +80,20 @@ fn the_deepest_level_by_each_way() {
 #[test]
 fn tables_too_short() {
     let made = words("a = 1 + b");
-    for numbers in 0..15 {
-        let place = [1, 3, 5, 5, 5][numbers / 3];
+    let enough = 5 * ROW_WIDTH;
+    for numbers in 0..enough {
+        let place = [1, 3, 5, 5, 5][numbers / ROW_WIDTH];
         assert_eq!(read_into(&made, numbers), refused(Refusal::NoRoom, place), "{numbers} numbers");
     }
-    for numbers in 15..18 {
-        assert_eq!(read_into(&made, numbers).map(|rows| rows.len()), Ok(15));
+    for numbers in enough..enough + ROW_WIDTH {
+        assert_eq!(read_into(&made, numbers).map(|rows| rows.len()), Ok(enough));
     }
 }
 
 /// The clauses that the library lists.
 fn clauses(tree: &Tree) -> Result<Vec<Vec<u32>>, Refused> {
-    let made = lay(tree);
-    let (mut literals, mut ends) = (vec![77; 8_192], vec![77; 1_024]);
+    let made = predicate_of(tree);
+    let (mut literals, mut ends) = (vec![77; limit::LITERALS], vec![77; limit::CLAUSES]);
     let Listed { clauses, literals: total } =
         split(&made.text, &made.rows, &mut literals, &mut ends)?;
     assert!(literals[total..].iter().chain(&ends[clauses..]).all(|n| *n == 77));
@@ -136,7 +137,7 @@ fn clause_limits() {
 
 /// The column and the values of a predicate's first clause.
 fn looked(tree: &Tree) -> Result<(u16, Vec<String>), Refused> {
-    let made = lay(tree);
+    let made = predicate_of(tree);
     let found = lookup(&made.text, &made.rows, 0)?;
     assert_eq!(value_at(&made.text, &made.rows, 0, found.values), refused(Refusal::NoSuch, 0));
     let values = (0..found.values).map(|n| match value_at(&made.text, &made.rows, 0, n).unwrap() {

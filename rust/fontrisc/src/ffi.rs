@@ -29,7 +29,6 @@ unsafe extern "C" {
         length: *mut u64,
     );
 
-    #[cfg(feature = "split")]
     fn fontrisc_split(
         text: *const u8,
         text_len: usize,
@@ -43,7 +42,6 @@ unsafe extern "C" {
         total: *mut u64,
     ) -> u32;
 
-    #[cfg(feature = "lookup")]
     fn fontrisc_lookup(
         text: *const u8,
         text_len: usize,
@@ -54,7 +52,6 @@ unsafe extern "C" {
         count: *mut u64,
     ) -> u32;
 
-    #[cfg(feature = "lookup")]
     fn fontrisc_value(
         text: *const u8,
         text_len: usize,
@@ -108,7 +105,6 @@ pub fn spelled(text: &[u8], tokens: &[u32], n: usize) -> (u64, u64) {
 
 /// `fontrisc_split`: the refusal's number, and clauses and literals, or the
 /// place and 0.
-#[cfg(feature = "split")]
 pub fn split(text: &[u8], rows: &[u64], literals: &mut [u32], ends: &mut [u32]) -> (u32, u64, u64) {
     let (mut clauses, mut total) = (0, 0);
     // SAFETY: each pointer and length is one slice's; both lists are lent by
@@ -132,7 +128,6 @@ pub fn split(text: &[u8], rows: &[u64], literals: &mut [u32], ends: &mut [u32]) 
 
 /// `fontrisc_lookup`: the refusal's number, and column and count of values, or
 /// the place and 0.
-#[cfg(feature = "lookup")]
 pub fn lookup(text: &[u8], rows: &[u64], clause: usize) -> (u32, u64, u64) {
     let (mut column, mut count) = (0, 0);
     // SAFETY: each pointer and length is one slice's; `column` and `count` are
@@ -151,10 +146,12 @@ pub fn lookup(text: &[u8], rows: &[u64], clause: usize) -> (u32, u64, u64) {
     (number, column, count)
 }
 
-/// `fontrisc_value`: the refusal's number, and the value as a constant's row,
-/// or the place, 0 and 0.
-#[cfg(feature = "lookup")]
-pub fn value(text: &[u8], rows: &[u64], clause: usize, n: usize) -> (u32, [u64; 3]) {
+/// A constant in numbers: kind, x and y (FORMAT §9.5).
+pub type Constant = [u64; 3];
+
+/// `fontrisc_value`: the refusal's number, and the value as a constant, or the
+/// place, 0 and 0.
+pub fn value(text: &[u8], rows: &[u64], clause: usize, n: usize) -> (u32, Constant) {
     let (mut kind, mut x, mut y) = (0, 0, 0);
     // SAFETY: each pointer and length is one slice's; `kind`, `x` and `y` are
     // three numbers of this function's own.

@@ -32,29 +32,26 @@
 //! nothing else is said.
 
 mod ffi;
+mod lookups;
 pub mod predicate;
 mod reading;
 mod refusal;
+mod row;
+mod splitting;
 pub mod syntax;
 pub mod token;
 mod walking;
 
-#[cfg(feature = "lookup")]
-mod lookups;
-#[cfg(feature = "split")]
-mod splitting;
-
-#[cfg(feature = "lookup")]
 pub use lookups::{Looked, Value, lookup, value_at};
 pub use reading::{parse, spelled};
 pub use refusal::{Refusal, Refused};
-#[cfg(feature = "split")]
+pub use row::{ROW_WIDTH, Row, rows};
 pub use splitting::{Listed, split};
-#[cfg(feature = "lookup")]
-pub use walking::values;
-pub use walking::{Literal, Row, read, rows};
-#[cfg(feature = "split")]
-pub use walking::{clauses, clauses_of};
+pub use walking::{Literal, clauses, clauses_of, read, values};
+
+/// How many numbers a token is in a token table: kind, start and length (FORMAT
+/// §2.2).
+pub const TOKEN_WIDTH: usize = 3;
 
 /// The C functions number for number, as FORMAT §11.8 gives them: for those who
 /// compare the library with something else.

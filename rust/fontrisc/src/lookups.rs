@@ -28,8 +28,8 @@ pub enum Value<'t> {
 }
 
 impl<'t> Value<'t> {
-    /// The value that a constant's row describes.
-    fn of(text: &'t [u8], [kind, x, y]: [u64; 3]) -> Value<'t> {
+    /// The value of a constant.
+    fn of(text: &'t [u8], [kind, x, y]: ffi::Constant) -> Value<'t> {
         match kind {
             predicate::NULL => Value::Null,
             predicate::BOOLEAN => Value::Boolean(x == 1),
@@ -128,7 +128,7 @@ pub fn value_at<'t>(
     n: usize,
 ) -> Result<Value<'t>, Refused> {
     match ffi::value(text, rows, clause, n) {
-        (0, row) => Ok(Value::of(text, row)),
+        (0, constant) => Ok(Value::of(text, constant)),
         (number, [place, ..]) => Err(refused(number, place)),
     }
 }

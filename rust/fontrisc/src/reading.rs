@@ -5,11 +5,11 @@ use crate::{Refused, ffi, refused};
 /// Reads a token table as one expression and writes its syntax rows (FORMAT §4,
 /// §5). Answers how many rows it wrote.
 ///
-/// A token is three numbers: its kind, and the start and length of its span in
-/// the text (FORMAT §2.2). A row is three numbers too, and rows stand in
-/// post-order (FORMAT §5.3). After an answer the rest of the table is as it
-/// was; after a refusal every number of the table is 0. Three numbers for each
-/// token, or for 2,048 tokens if there are more, are room enough.
+/// A token is its kind, and the start and length of its span in the text
+/// (FORMAT §2.2). Rows are the numbers of [`Row`](crate::Row), in post-order
+/// (FORMAT §5.3). After an answer the rest of the table is as it
+/// was; after a refusal every number of the table is 0. A table with a row for
+/// each token, or of 2,048 rows if there are more tokens, is room enough.
 ///
 /// Stack: [`stack::PARSE`](crate::stack::PARSE).
 ///

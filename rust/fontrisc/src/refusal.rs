@@ -2,60 +2,62 @@
 
 use std::fmt::{Display, Formatter};
 
-/// Why an entry has no answer (FORMAT §11.1).
-#[derive(Clone, Copy, Debug, PartialEq, Eq, PartialOrd, Ord, Hash)]
-#[repr(u32)]
-pub enum Refusal {
-    /// The text, the tokens or the predicate rows are over the limit.
-    TooLong = 1,
-    /// The token table has a ragged end, an unknown kind or a span outside the text.
-    BadTable = 2,
-    /// A token is needed and none is left.
-    End = 3,
-    /// No atom starts with this token.
-    NoAtom = 4,
-    /// Another token is needed here.
-    WrongToken = 5,
-    /// The expression has ended and tokens are left.
-    LeftOver = 6,
-    /// A Number token spells no number, or a whole number that is too large.
-    BadNumber = 7,
-    /// More than 64 levels of reading.
-    TooDeep = 8,
-    /// The row table is full, or 2,048 rows are written.
-    NoRoom = 9,
-    /// The predicate rows are not one whole tree.
-    BadTree = 10,
-    /// More than 1,024 clauses or 8,192 literals.
-    TooMany = 11,
-    /// A list lent to `split` is too short.
-    NoList = 12,
-    /// The clause is no lookup.
-    NotLookup = 13,
-    /// No clause, or no value, has the number asked for.
-    NoSuch = 14,
+/// What is said of a refusal.
+struct Entry {
+    /// Its name in docs/FORMAT.md.
+    name: &'static str,
+    /// What its place is the number of, if it has one.
+    place: Option<&'static str>,
+    /// What it means, for people.
+    sentence: &'static str,
+}
+
+/// Makes [`Refusal`] and all that is said of each from one table, by rising numbers.
+macro_rules! refusals {
+    ($($refusal:ident = $number:literal, $name:literal, $place:expr, $sentence:literal;)*) => {
+        /// Why an entry has no answer (FORMAT §11.1).
+        #[derive(Clone, Copy, Debug, PartialEq, Eq, PartialOrd, Ord, Hash)]
+        #[repr(u32)]
+        pub enum Refusal {
+            $(#[doc = concat!($name, ": ", $sentence, ".")] $refusal = $number,)*
+        }
+
+        impl Refusal {
+            /// All refusals, by rising numbers.
+            pub const ALL: &[Refusal] = &[$(Refusal::$refusal),*];
+
+            /// Its line of the table.
+            fn entry(self) -> Entry {
+                match self {
+                    $(Refusal::$refusal => {
+                        Entry { name: $name, place: $place, sentence: $sentence }
+                    })*
+                }
+            }
+        }
+    };
+}
+
+// A line each: number, name, what its place is the number of, what it means.
+refusals! {
+    TooLong = 1, "TOO_LONG", None, "the text, the tokens or the rows are more than the limits allow";
+    BadTable = 2, "BAD_TABLE", Some("token"), "this token has an unknown kind or lies outside the text, or the table ends within it";
+    End = 3, "END", Some("token"), "the expression stops too early";
+    NoAtom = 4, "NO_ATOM", Some("token"), "no operand can start with this token";
+    WrongToken = 5, "WRONG_TOKEN", Some("token"), "something else is needed here: a `)`, a `,`, a column's name after `.`, or NULL or NAN after IS";
+    LeftOver = 6, "LEFT_OVER", Some("token"), "the expression ends before this token";
+    BadNumber = 7, "BAD_NUMBER", Some("token"), "this is no number, or a whole number that is too large";
+    TooDeep = 8, "TOO_DEEP", Some("token"), "the expression is nested more than 64 levels deep";
+    NoRoom = 9, "NO_ROOM", Some("token"), "the expression needs more rows than there is room for";
+    BadTree = 10, "BAD_TREE", Some("row"), "at this row the predicate stops being one whole tree";
+    TooMany = 11, "TOO_MANY", None, "the predicate comes to more than 1,024 clauses or 8,192 literals";
+    NoList = 12, "NO_LIST", None, "a list lent for the clauses is too short";
+    NotLookup = 13, "NOT_LOOKUP", None, "the clause is no lookup on one column";
+    NoSuch = 14, "NO_SUCH", None, "there is no clause or value with this number";
 }
 
 impl Refusal {
-    /// All refusals, by their numbers.
-    pub const ALL: [Refusal; 14] = [
-        Refusal::TooLong,
-        Refusal::BadTable,
-        Refusal::End,
-        Refusal::NoAtom,
-        Refusal::WrongToken,
-        Refusal::LeftOver,
-        Refusal::BadNumber,
-        Refusal::TooDeep,
-        Refusal::NoRoom,
-        Refusal::BadTree,
-        Refusal::TooMany,
-        Refusal::NoList,
-        Refusal::NotLookup,
-        Refusal::NoSuch,
-    ];
-
-    /// The refusal with a number; none for 0 and for 15 and above.
+    /// The refusal with a number, if there is one.
     ///
     /// ```
     /// use fontrisc::Refusal;
@@ -63,8 +65,7 @@ impl Refusal {
     /// assert_eq!(Refusal::of(0), None);
     /// ```
     pub fn of(number: u32) -> Option<Refusal> {
-        let before = number.checked_sub(1)?;
-        Refusal::ALL.get(before as usize).copied()
+        Refusal::ALL.iter().copied().find(|refusal| refusal.number() == number)
     }
 
     /// The number that the C functions return for it.
@@ -74,59 +75,18 @@ impl Refusal {
 
     /// Its name in docs/FORMAT.md, as NO_ATOM.
     pub fn name(self) -> &'static str {
-        match self {
-            Refusal::TooLong => "TOO_LONG",
-            Refusal::BadTable => "BAD_TABLE",
-            Refusal::End => "END",
-            Refusal::NoAtom => "NO_ATOM",
-            Refusal::WrongToken => "WRONG_TOKEN",
-            Refusal::LeftOver => "LEFT_OVER",
-            Refusal::BadNumber => "BAD_NUMBER",
-            Refusal::TooDeep => "TOO_DEEP",
-            Refusal::NoRoom => "NO_ROOM",
-            Refusal::BadTree => "BAD_TREE",
-            Refusal::TooMany => "TOO_MANY",
-            Refusal::NoList => "NO_LIST",
-            Refusal::NotLookup => "NOT_LOOKUP",
-            Refusal::NoSuch => "NO_SUCH",
-        }
+        self.entry().name
     }
 
     /// What its place is the number of, a "token" or a "row"; none where it has no
     /// place.
     pub fn place_of(self) -> Option<&'static str> {
-        match self {
-            Refusal::TooLong | Refusal::TooMany | Refusal::NoList => None,
-            Refusal::NotLookup | Refusal::NoSuch => None,
-            Refusal::BadTree => Some("row"),
-            _ => Some("token"),
-        }
+        self.entry().place
     }
 
     /// What it means, for people.
     pub fn sentence(self) -> &'static str {
-        match self {
-            Refusal::TooLong => "the text, the tokens or the rows are more than the limits allow",
-            Refusal::BadTable => {
-                "this token has an unknown kind or lies outside the text, \
-                 or the table ends within it"
-            }
-            Refusal::End => "the expression stops too early",
-            Refusal::NoAtom => "no operand can start with this token",
-            Refusal::WrongToken => {
-                "something else is needed here: a `)`, a `,`, \
-                 a column's name after `.`, or NULL or NAN after IS"
-            }
-            Refusal::LeftOver => "the expression ends before this token",
-            Refusal::BadNumber => "this is no number, or a whole number that is too large",
-            Refusal::TooDeep => "the expression is nested more than 64 levels deep",
-            Refusal::NoRoom => "the expression needs more rows than there is room for",
-            Refusal::BadTree => "at this row the predicate stops being one whole tree",
-            Refusal::TooMany => "the predicate comes to more than 1,024 clauses or 8,192 literals",
-            Refusal::NoList => "a list lent for the clauses is too short",
-            Refusal::NotLookup => "the clause is no lookup on one column",
-            Refusal::NoSuch => "there is no clause or value with this number",
-        }
+        self.entry().sentence
     }
 }
 

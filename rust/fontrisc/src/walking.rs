@@ -1,31 +1,7 @@
 //! Going through rows, clauses and values one by one, and the same in memory of
 //! their own.
 
-use crate::{Refused, limit, parse};
-
-/// A row of a syntax tree or of a predicate (FORMAT §5.1, §6.1).
-#[derive(Clone, Copy, Debug, PartialEq, Eq, Hash)]
-pub struct Row {
-    /// What kind of node it is.
-    pub kind: u64,
-    /// By kind a value, a token or an operand's row.
-    pub x: u64,
-    /// Likewise.
-    pub y: u64,
-}
-
-/// The rows of a table. A rest that is no whole row is left out.
-///
-/// ```
-/// use fontrisc::syntax::{COLUMN, EQUAL, INTEGER};
-/// use fontrisc::{Row, rows};
-///
-/// let table = [COLUMN, 0, 0, INTEGER, 1, 0, EQUAL, 0, 1];
-/// assert_eq!(rows(&table).last(), Some(Row { kind: EQUAL, x: 0, y: 1 }));
-/// ```
-pub fn rows(table: &[u64]) -> impl ExactSizeIterator<Item = Row> + DoubleEndedIterator + '_ {
-    table.as_chunks().0.iter().map(|[kind, x, y]| Row { kind: *kind, x: *x, y: *y })
-}
+use crate::{ROW_WIDTH, Refused, Row, TOKEN_WIDTH, limit, parse, rows};
 
 /// Reads a token table as one expression, as [`parse`] does, into a table of
 /// the size that is needed.
@@ -41,9 +17,10 @@ pub fn rows(table: &[u64]) -> impl ExactSizeIterator<Item = Row> + DoubleEndedIt
 /// ```
 pub fn read(text: &[u8], tokens: &[u32]) -> Result<Vec<Row>, Refused> {
     // No list makes more rows than it has tokens.
-    let mut table = vec![0; 3 * (tokens.len() / 3).min(limit::ROWS)];
+    let most = (tokens.len() / TOKEN_WIDTH).min(limit::ROWS);
+    let mut table = vec![0; ROW_WIDTH * most];
     let written = parse(text, tokens, &mut table)?;
-    Ok(rows(&table[..3 * written]).collect())
+    Ok(rows(&table).take(written).collect())
 }
 
 /// A literal of a clause: an atom, or one negated atom (FORMAT §8.3).
@@ -78,7 +55,6 @@ impl From<u32> for Literal {
 /// assert_eq!(clause[1], Literal { row: 1, negated: true });
 /// assert!(list.next().is_none());
 /// ```
-#[cfg(feature = "split")]
 pub fn clauses<'l, 'e>(
     literals: &'l [u32],
     ends: &'e [u32],
@@ -103,7 +79,6 @@ pub fn clauses<'l, 'e>(
 /// let list = fontrisc::clauses_of(b"", &rows).unwrap();
 /// assert_eq!(list.iter().map(|clause| clause[0].row).collect::<Vec<_>>(), [0, 1]);
 /// ```
-#[cfg(feature = "split")]
 pub fn clauses_of(text: &[u8], rows: &[u64]) -> Result<Vec<Vec<Literal>>, Refused> {
     let (mut literals, mut ends) = (vec![0; limit::LITERALS], vec![0; limit::CLAUSES]);
     let listed = crate::split(text, rows, &mut literals, &mut ends)?;
@@ -131,7 +106,6 @@ pub fn clauses_of(text: &[u8], rows: &[u64]) -> Result<Vec<Vec<Literal>>, Refuse
 /// };
 /// assert_eq!(found, [Value::String(b"free")]);
 /// ```
-#[cfg(feature = "lookup")]
 pub fn values<'t, 'r>(
     text: &'t [u8],
     rows: &'r [u64],

@@ -68,7 +68,6 @@ fn a_cpp_program_gets_the_same_answers() {
 
 /// The example of the repository.
 #[test]
-#[cfg(feature = "lookup")]
 fn the_example_runs() {
     let source = Path::new(env!("CARGO_MANIFEST_DIR")).join("../../examples/filter.c");
     let said = run("cc", "-std=c99", &source, "filter");

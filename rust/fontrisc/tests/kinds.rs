@@ -33,34 +33,42 @@ fn in_source(source: &str) -> Names {
     parts.collect()
 }
 
-/// The kinds that a crate of the library has, without the bounds beside them.
-fn in_library(name: &str) -> Names {
+/// The kinds of each crate of the library that has some in its `src/kind.rt`,
+/// without the bounds beside them.
+fn in_library() -> Vec<Names> {
     let crates = Path::new(env!("CARGO_MANIFEST_DIR")).join("../../crates");
-    let source = std::fs::read_to_string(crates.join(name).join("src/kind.rt"));
-    let mut names = in_source(&source.expect("the crate has its kinds in `src/kind.rt`"));
-    names.retain(|(name, _)| name != "LAST" && name != "COLUMN_MAX");
-    names
+    let crates = std::fs::read_dir(crates).expect("the crates").flatten();
+    let sources = crates.filter_map(|entry| {
+        let source = entry.path().join("src/kind.rt");
+        source.is_file().then(|| std::fs::read_to_string(source).expect("a source"))
+    });
+    let kinds = sources.map(|source| {
+        let mut names = in_source(&source);
+        names.retain(|(name, _)| name != "LAST" && name != "COLUMN_MAX");
+        names
+    });
+    kinds.collect()
 }
 
 /// Three lists are the same, and count up from 1.
-fn same(prefix: &str, here: &str, library: &str, count: usize) {
+fn same(prefix: &str, here: &str, count: usize) {
     let ours = in_source(here);
     assert!(ours.iter().map(|(_, number)| *number).eq(1..=count as u64), "{prefix} {ours:?}");
     assert_eq!(in_header(prefix), ours);
-    assert_eq!(in_library(library), ours);
+    assert!(in_library().contains(&ours), "no crate has these kinds: {ours:?}");
 }
 
 #[test]
 fn the_kinds_of_tokens() {
-    same("FONTRISC_TOKEN_", include_str!("../src/token.rs"), "tokens", 88);
+    same("FONTRISC_TOKEN_", include_str!("../src/token.rs"), 88);
 }
 
 #[test]
 fn the_kinds_of_syntax_rows() {
-    same("FONTRISC_SYNTAX_", include_str!("../src/syntax.rs"), "operators", 31);
+    same("FONTRISC_SYNTAX_", include_str!("../src/syntax.rs"), 31);
 }
 
 #[test]
 fn the_kinds_of_predicate_rows() {
-    same("FONTRISC_ROW_", include_str!("../src/predicate.rs"), "predicate", 24);
+    same("FONTRISC_ROW_", include_str!("../src/predicate.rs"), 24);
 }

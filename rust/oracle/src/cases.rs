@@ -1,7 +1,12 @@
 //! Inputs: token tables written as words, predicates written as trees, and
 //! seeded chance.
 
-/// How the kinds 4 to 88 are spelled, in the order of their numbers.
+use crate::layout::{Row, row_count};
+use crate::plain::predicate::kind;
+use crate::plain::tokens::kind as token;
+
+/// How the kinds of tokens without content are spelled, in the order of their
+/// numbers, which begin with the one of OR.
 pub const SPELLED: [&str; 85] = [
     "OR",
     "AND",
@@ -128,32 +133,32 @@ impl Default for Tokens {
 pub fn words(line: &str) -> Tokens {
     let mut made = Tokens::new();
     for word in line.split(' ').filter(|word| !word.is_empty()) {
-        let (kind, bytes) = token(word);
+        let (kind, bytes) = token_of(word);
         made.push(kind, bytes.as_bytes());
     }
     made
 }
 
 /// The kind and the bytes of a word.
-fn token(word: &str) -> (u32, &str) {
+fn token_of(word: &str) -> (u32, &str) {
     if let Some(n) = SPELLED.iter().position(|s| *s == word) {
-        return (n as u32 + 4, word);
+        return (token::OR + n as u32, word);
     }
     match word.as_bytes()[0] {
-        b'\'' => (2, &word[1..]),
-        b'#' => (1, &word[1..]),
-        b'0'..=b'9' => (1, word),
-        _ => (3, word),
+        b'\'' => (token::STRING, &word[1..]),
+        b'#' => (token::NUMBER, &word[1..]),
+        b'0'..=b'9' => (token::NUMBER, word),
+        _ => (token::IDENT, word),
     }
 }
 
-/// A word of the given kind, 1 to 88.
+/// A word of a known kind.
 pub fn word_of(kind: u32) -> &'static str {
     match kind {
-        1 => "7",
-        2 => "'s",
-        3 => "x",
-        _ => SPELLED[kind as usize - 4],
+        token::NUMBER => "7",
+        token::STRING => "'s",
+        token::IDENT => "x",
+        _ => SPELLED[(kind - token::OR) as usize],
     }
 }
 
@@ -238,7 +243,7 @@ pub fn spoil(dice: &mut Dice, line: &str) -> String {
     match dice.below(3) {
         0 => drop(words.remove(at)),
         1 => words.insert(at, words[at]),
-        _ => words[at] = word_of(dice.below(88) as u32 + 1),
+        _ => words[at] = word_of(dice.below(token::LAST as usize) as u32 + 1),
     }
     words.join(" ")
 }
@@ -261,24 +266,34 @@ pub enum Tree {
     Binary(u64, Box<Tree>, Box<Tree>),
 }
 
+/// A kind of two operands over these.
+pub fn binary(kind: u64, left: Tree, right: Tree) -> Tree {
+    Tree::Binary(kind, Box::new(left), Box::new(right))
+}
+
+/// A kind of one operand, other than Is, over this one.
+pub fn unary(kind: u64, operand: Tree) -> Tree {
+    Tree::Unary(kind, Box::new(operand))
+}
+
 /// A conjunction.
 pub fn and(left: Tree, right: Tree) -> Tree {
-    Tree::Binary(7, Box::new(left), Box::new(right))
+    binary(kind::AND, left, right)
 }
 
 /// A disjunction.
 pub fn or(left: Tree, right: Tree) -> Tree {
-    Tree::Binary(8, Box::new(left), Box::new(right))
+    binary(kind::OR, left, right)
 }
 
 /// A negation.
 pub fn not(tree: Tree) -> Tree {
-    Tree::Unary(9, Box::new(tree))
+    unary(kind::NOT, tree)
 }
 
 /// An equality.
 pub fn equal(left: Tree, right: Tree) -> Tree {
-    Tree::Binary(10, Box::new(left), Box::new(right))
+    binary(kind::EQUAL, left, right)
 }
 
 /// A test for NULL (0) or NaN (1).
@@ -301,37 +316,37 @@ pub fn string(value: &str) -> Tree {
 pub struct Predicate {
     /// The text that holds the strings.
     pub text: Vec<u8>,
-    /// The rows, three numbers each.
+    /// The table of its rows.
     pub rows: Vec<u64>,
 }
 
 /// A tree as text and rows.
-pub fn lay(tree: &Tree) -> Predicate {
+pub fn predicate_of(tree: &Tree) -> Predicate {
     let mut made = Predicate { text: Vec::new(), rows: Vec::new() };
-    made.lay(tree);
+    made.push(tree);
     made
 }
 
 impl Predicate {
-    /// Lays out a tree and answers its root's row.
-    fn lay(&mut self, tree: &Tree) -> u64 {
+    /// Adds the rows of a tree and answers its root's.
+    fn push(&mut self, tree: &Tree) -> u64 {
         let row = match tree {
-            Tree::Null => [1, 0, 0],
-            Tree::Boolean(b) => [2, u64::from(*b), 0],
-            Tree::Integer(i) => [3, *i as u64, 0],
-            Tree::Float(bits) => [4, *bits, 0],
+            Tree::Null => Row::new(kind::NULL, 0, 0),
+            Tree::Boolean(b) => Row::new(kind::BOOLEAN, u64::from(*b), 0),
+            Tree::Integer(i) => Row::new(kind::INTEGER, *i as u64, 0),
+            Tree::Float(bits) => Row::new(kind::FLOAT, *bits, 0),
             Tree::String(bytes) => {
                 let start = self.text.len() as u64;
                 self.text.extend(bytes);
-                [5, start, bytes.len() as u64]
+                Row::new(kind::STRING, start, bytes.len() as u64)
             }
-            Tree::Column(c) => [6, *c, 0],
-            Tree::Unary(kind, operand) => [*kind, self.lay(operand), 0],
-            Tree::Is(operand, y) => [13, self.lay(operand), *y],
-            Tree::Binary(kind, left, right) => [*kind, self.lay(left), self.lay(right)],
+            Tree::Column(c) => Row::new(kind::COLUMN, *c, 0),
+            Tree::Unary(kind, operand) => Row::new(*kind, self.push(operand), 0),
+            Tree::Is(operand, y) => Row::new(kind::IS, self.push(operand), *y),
+            Tree::Binary(kind, left, right) => Row::new(*kind, self.push(left), self.push(right)),
         };
-        self.rows.extend(row);
-        self.rows.len() as u64 / 3 - 1
+        self.rows.extend(row.numbers());
+        row_count(&self.rows) as u64 - 1
     }
 }
 
@@ -386,21 +401,25 @@ pub fn random_atom(dice: &mut Dice) -> Tree {
     match dice.below(6) {
         0 => Tree::Column(dice.below(4) as u64),
         1 => Tree::Boolean(dice.below(2) == 1),
-        2 => Tree::Binary(dice.pick(&[11, 12, 24]), random_term(dice), random_term(dice)),
-        3 => is(*random_term(dice), dice.below(2) as u64),
+        2 => {
+            let kind = dice.pick(&[kind::GREATER_THAN, kind::LESS_THAN, kind::LIKE]);
+            binary(kind, random_term(dice), random_term(dice))
+        }
+        3 => is(random_term(dice), dice.below(2) as u64),
         _ => random_lookup(dice),
     }
 }
 
 /// A random column, constant or small sum.
-fn random_term(dice: &mut Dice) -> Box<Tree> {
-    let column = || Tree::Column(1);
-    Box::new(match dice.below(4) {
+fn random_term(dice: &mut Dice) -> Tree {
+    let column = Tree::Column(1);
+    let unaries = [kind::FACTORIAL, kind::IDENTITY, kind::NEGATE, kind::SQUARE_ROOT];
+    match dice.below(4) {
         0 => Tree::Column(dice.below(4) as u64),
-        1 => Tree::Binary(14, Box::new(column()), Box::new(Tree::Integer(2))),
-        2 => Tree::Unary(dice.pick(&[17, 18, 20, 22]), Box::new(column())),
+        1 => binary(kind::ADD, column, Tree::Integer(2)),
+        2 => unary(dice.pick(&unaries), column),
         _ => random_constant(dice),
-    })
+    }
 }
 
 /// A random constant.

@@ -1,6 +1,6 @@
-//! The error type that the included sources report through.
+//! The error type that the original's sources report through.
 
-/// Why the included code stopped.
+/// Why the original code stopped.
 #[derive(Clone, Debug, PartialEq, Eq)]
 pub enum Error {
     /// It called `errinput!`; the argument list is kept as it was written, so
@@ -8,8 +8,6 @@ pub enum Error {
     Input(&'static str),
     /// A number did not read as an integer or as a float.
     Number,
-    /// A pattern was refused.
-    Pattern,
 }
 
 /// A result with that error.
@@ -43,8 +41,9 @@ impl From<std::num::ParseFloatError> for Error {
     }
 }
 
+/// The original's source asks for it; there is no such error.
 impl From<regex::Error> for Error {
     fn from(_: regex::Error) -> Self {
-        Error::Pattern
+        unreachable!("no pattern is ever made")
     }
 }

@@ -1,22 +1,24 @@
-//! The included expression source's answers about a predicate: its clauses,
+//! The original expression source's answers about a predicate: its clauses,
 //! lookups and values, and what it evaluates a literal to.
 
+use crate::layout::{Constant, Row, row_at, row_count};
 use crate::plain::cells::{Kleene, NAN_BITS, Value};
+use crate::plain::predicate::{is_constant, kind};
 use crate::sql::types::{Expression, Value as Cell};
 use std::panic::{AssertUnwindSafe, catch_unwind};
 
-/// A lookup as the included source reports it.
+/// A lookup as the original reports it.
 #[derive(Clone, Debug, PartialEq, Eq)]
 pub struct Lookup {
     /// The column.
     pub column: u64,
     /// The values, in order.
     pub values: Vec<Value>,
-    /// The same values, each as the predicate row of a constant.
-    pub rows: Vec<[u64; 3]>,
+    /// The same values as constants.
+    pub constants: Vec<Constant>,
 }
 
-/// One element of the included source's list of clauses.
+/// One element of the original's list of clauses.
 #[derive(Clone, Debug, PartialEq, Eq)]
 pub struct Clause {
     /// The literals in order, if the element is an OR of literals and each is
@@ -35,13 +37,13 @@ pub struct Clause {
 /// Predicates with more rows than this are worked on a large stack.
 const SHALLOW: usize = 64;
 
-/// Asks the included source for the clauses of a good predicate.
+/// Asks the original for the clauses of a good predicate.
 ///
 /// The source copies operands when it distributes OR over AND and knows no
 /// limit, so the caller first makes sure that the clause list is a small one.
 pub fn split(text: &[u8], rows: &[u64]) -> Vec<Clause> {
-    if rows.len() > 3 * SHALLOW {
-        crate::deep(|| split_here(text, rows))
+    if row_count(rows) > SHALLOW {
+        crate::on_large_stack(|| split_here(text, rows))
     } else {
         split_here(text, rows)
     }
@@ -51,16 +53,16 @@ pub fn split(text: &[u8], rows: &[u64]) -> Vec<Clause> {
 /// already. The source is run twice: on the true predicate, and on one whose
 /// atoms are columns numbered by their rows.
 pub fn split_here(text: &[u8], rows: &[u64]) -> Vec<Clause> {
-    let root = rows.len() / 3 - 1;
+    let root = row_count(rows) - 1;
     let marked = skeleton(rows, root).into_cnf_vec();
     let whole = build(text, rows, root, Strings::Numbered).into_cnf_vec();
     assert_eq!(marked.len(), whole.len(), "the shape above atoms depends on atoms");
     marked.into_iter().zip(whole).map(|(m, w)| clause(text, rows, m, w)).collect()
 }
 
-/// A good predicate as the included source's type.
+/// A good predicate as the original's type.
 pub fn tree_of(text: &[u8], rows: &[u64]) -> Expression {
-    build(text, rows, rows.len() / 3 - 1, Strings::Spelled)
+    build(text, rows, row_count(rows) - 1, Strings::Spelled)
 }
 
 /// What there is to say of one element, given twice.
@@ -72,9 +74,9 @@ fn clause(text: &[u8], rows: &[u64], marked: Expression, whole: Expression) -> C
     let altered = restore(text, rows, &marked) != whole;
     let lookup = whole.is_column_lookup().map(|column| {
         let found = whole.into_column_values(column);
-        let rows: Vec<[u64; 3]> = found.iter().map(|v| constant_row(rows, v)).collect();
-        let values = rows.iter().map(|row| Value::of_row(text, row)).collect();
-        Lookup { column: column as u64, values, rows }
+        let constants: Vec<Constant> = found.iter().map(|v| constant(rows, v)).collect();
+        let values = constants.iter().map(|constant| Value::of(text, *constant)).collect();
+        Lookup { column: column as u64, values, constants }
     });
     Clause { literals: pure.then_some(literals), and_left, not_left, altered, lookup }
 }
@@ -114,19 +116,14 @@ fn leftovers(marked: &Expression, and_left: &mut bool, not_left: &mut bool) {
     }
 }
 
-/// The three numbers of a row.
-fn row(rows: &[u64], r: usize) -> [u64; 3] {
-    [rows[3 * r], rows[3 * r + 1], rows[3 * r + 2]]
-}
-
 /// The predicate with each atom replaced by a column numbered by its row.
 fn skeleton(rows: &[u64], r: usize) -> Expression {
-    let [kind, x, y] = row(rows, r);
+    let Row { kind, x, y, .. } = row_at(rows, r);
     let operand = |r: u64| Box::new(skeleton(rows, r as usize));
     match kind {
-        7 => Expression::And(operand(x), operand(y)),
-        8 => Expression::Or(operand(x), operand(y)),
-        9 => Expression::Not(operand(x)),
+        kind::AND => Expression::And(operand(x), operand(y)),
+        kind::OR => Expression::Or(operand(x), operand(y)),
+        kind::NOT => Expression::Not(operand(x)),
         _ => Expression::Column(r),
     }
 }
@@ -143,7 +140,7 @@ fn restore(text: &[u8], rows: &[u64], marked: &Expression) -> Expression {
     }
 }
 
-/// What a string constant holds when it is lent to the included source.
+/// What a string constant holds when it is lent to the original.
 #[derive(Clone, Copy)]
 enum Strings {
     /// The decimal number of its row: which constant came back is then known.
@@ -153,40 +150,41 @@ enum Strings {
     Spelled,
 }
 
-/// The predicate below a row as the included source's type.
+/// The predicate below a row as the original's type.
 fn build(text: &[u8], rows: &[u64], r: usize, strings: Strings) -> Expression {
-    use Expression::*;
-    let [kind, x, y] = row(rows, r);
+    let row @ Row { kind, x, y, .. } = row_at(rows, r);
     let operand = |r: u64| Box::new(build(text, rows, r as usize, strings));
     match kind {
-        1..=5 => Constant(match strings {
-            Strings::Numbered if kind == 5 => Cell::String(r.to_string()),
-            _ => lent(&Value::of_row(text, &[kind, x, y])),
+        _ if is_constant(kind) => Expression::Constant(match strings {
+            Strings::Numbered if kind == kind::STRING => Cell::String(r.to_string()),
+            _ => lent(&Value::of(text, row.constant())),
         }),
-        6 => Column(x as usize),
-        7 => And(operand(x), operand(y)),
-        8 => Or(operand(x), operand(y)),
-        9 => Not(operand(x)),
-        10 => Equal(operand(x), operand(y)),
-        11 => GreaterThan(operand(x), operand(y)),
-        12 => LessThan(operand(x), operand(y)),
-        13 => Is(operand(x), if y == 0 { Cell::Null } else { Cell::Float(f64::NAN) }),
-        14 => Add(operand(x), operand(y)),
-        15 => Divide(operand(x), operand(y)),
-        16 => Exponentiate(operand(x), operand(y)),
-        17 => Factorial(operand(x)),
-        18 => Identity(operand(x)),
-        19 => Multiply(operand(x), operand(y)),
-        20 => Negate(operand(x)),
-        21 => Remainder(operand(x), operand(y)),
-        22 => SquareRoot(operand(x)),
-        23 => Subtract(operand(x), operand(y)),
-        24 => Like(operand(x), operand(y)),
+        kind::COLUMN => Expression::Column(x as usize),
+        kind::AND => Expression::And(operand(x), operand(y)),
+        kind::OR => Expression::Or(operand(x), operand(y)),
+        kind::NOT => Expression::Not(operand(x)),
+        kind::EQUAL => Expression::Equal(operand(x), operand(y)),
+        kind::GREATER_THAN => Expression::GreaterThan(operand(x), operand(y)),
+        kind::LESS_THAN => Expression::LessThan(operand(x), operand(y)),
+        kind::IS => {
+            Expression::Is(operand(x), if y == 0 { Cell::Null } else { Cell::Float(f64::NAN) })
+        }
+        kind::ADD => Expression::Add(operand(x), operand(y)),
+        kind::DIVIDE => Expression::Divide(operand(x), operand(y)),
+        kind::EXPONENTIATE => Expression::Exponentiate(operand(x), operand(y)),
+        kind::FACTORIAL => Expression::Factorial(operand(x)),
+        kind::IDENTITY => Expression::Identity(operand(x)),
+        kind::MULTIPLY => Expression::Multiply(operand(x), operand(y)),
+        kind::NEGATE => Expression::Negate(operand(x)),
+        kind::REMAINDER => Expression::Remainder(operand(x), operand(y)),
+        kind::SQUARE_ROOT => Expression::SquareRoot(operand(x)),
+        kind::SUBTRACT => Expression::Subtract(operand(x), operand(y)),
+        kind::LIKE => Expression::Like(operand(x), operand(y)),
         _ => unreachable!("the rows were checked"),
     }
 }
 
-/// A value as the included source takes it, strings one character a byte.
+/// A value as the original takes it, strings one character a byte.
 fn lent(value: &Value) -> Cell {
     match value {
         Value::Null => Cell::Null,
@@ -197,19 +195,21 @@ fn lent(value: &Value) -> Cell {
     }
 }
 
-/// A value that came back, as the predicate row of a constant.
-fn constant_row(rows: &[u64], value: &Cell) -> [u64; 3] {
+/// A value that came back, as a constant.
+fn constant(rows: &[u64], value: &Cell) -> Constant {
     match value {
-        Cell::Null => [1, 0, 0],
-        Cell::Boolean(b) => [2, u64::from(*b), 0],
-        Cell::Integer(i) => [3, *i as u64, 0],
-        Cell::Float(x) if x.is_nan() => [4, NAN_BITS, 0],
-        Cell::Float(x) => [4, x.to_bits(), 0],
-        Cell::String(number) => row(rows, number.parse().expect("a row number was lent")),
+        Cell::Null => [kind::NULL, 0, 0],
+        Cell::Boolean(b) => [kind::BOOLEAN, u64::from(*b), 0],
+        Cell::Integer(i) => [kind::INTEGER, *i as u64, 0],
+        Cell::Float(x) if x.is_nan() => [kind::FLOAT, NAN_BITS, 0],
+        Cell::Float(x) => [kind::FLOAT, x.to_bits(), 0],
+        Cell::String(number) => {
+            row_at(rows, number.parse().expect("a row number was lent")).constant()
+        }
     }
 }
 
-/// What the included source evaluates a literal to.
+/// What the original evaluates a literal to.
 #[derive(Clone, Copy, Debug, PartialEq, Eq)]
 pub enum Evaluated {
     /// TRUE, FALSE or NULL.
@@ -222,7 +222,7 @@ pub enum Evaluated {
     Panicked,
 }
 
-/// Asks the included source for the value of one literal of a good predicate
+/// Asks the original for the value of one literal of a good predicate
 /// on a row of cells, the first in column 0. A literal of a row that is no
 /// atom asks for the value of everything below that row.
 pub fn evaluate(text: &[u8], rows: &[u64], literal: u64, cells: &[Value]) -> Evaluated {
@@ -239,19 +239,19 @@ pub fn evaluate(text: &[u8], rows: &[u64], literal: u64, cells: &[Value]) -> Eva
     }
 }
 
-/// Whether the included source panics when it is asked for the values of one
+/// Whether the original panics when it is asked for the values of one
 /// element of its list under a column, rather than answering.
 pub fn values_panic(text: &[u8], rows: &[u64], clause: usize, column: usize) -> bool {
-    let root = rows.len() / 3 - 1;
+    let root = row_count(rows) - 1;
     let mut clauses = build(text, rows, root, Strings::Numbered).into_cnf_vec();
     let clause = clauses.swap_remove(clause);
     catch_unwind(AssertUnwindSafe(|| clause.into_column_values(column))).is_err()
 }
 
-/// The Kleene value of the included source's clauses, whatever their form,
+/// The Kleene value of the original's clauses, whatever their form,
 /// when each atom's row has the value that `atoms` gives it.
 pub fn conjunction(rows: &[u64], atoms: &dyn Fn(usize) -> Kleene) -> Kleene {
-    let clauses = skeleton(rows, rows.len() / 3 - 1).into_cnf_vec();
+    let clauses = skeleton(rows, row_count(rows) - 1).into_cnf_vec();
     clauses.iter().fold(Kleene::True, |value, clause| value.and(kleene(clause, atoms)))
 }
 

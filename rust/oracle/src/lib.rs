@@ -1,19 +1,21 @@
 //! The original reader and splitter, compiled byte for byte as they were
 //! published, beside a plain reading of the format in docs/FORMAT.md.
 //!
-//! * [`parser`] asks the included parser for its answer to a token table.
-//! * [`expression`] asks the included expression source for its clauses,
+//! * [`parser`] asks the original parser for its answer to a token table.
+//! * [`expression`] asks the original expression source for its clauses,
 //!   lookups and values.
 //! * [`plain`] is a small reading of docs/FORMAT.md itself, limits included,
-//!   that shares nothing with the other two.
+//!   that shares nothing with the other two but the layout.
+//! * [`layout`] says how tokens, rows and constants lie in memory.
 //! * [`cases`] makes inputs; [`list`] writes the stored answers in crates/replay/data/.
 //!
-//! Nothing of the included sources stands in this repository. The folder that
+//! Nothing of the original's sources stands in this repository. The folder that
 //! holds them is named by the environment variable `TOYDB_SRC` at build time.
 
 pub mod cases;
 pub mod error;
 pub mod expression;
+pub mod layout;
 pub mod list;
 pub mod parser;
 pub mod plain;
@@ -21,7 +23,7 @@ pub mod sql;
 
 /// Runs something that may recurse far on a stack that is large enough for
 /// every input the format admits.
-pub fn deep<T: Send>(work: impl FnOnce() -> T + Send) -> T {
+pub fn on_large_stack<T: Send>(work: impl FnOnce() -> T + Send) -> T {
     std::thread::scope(|scope| {
         let builder = std::thread::Builder::new().stack_size(256 << 20);
         let thread = builder.spawn_scoped(scope, work).expect("a thread can be started");

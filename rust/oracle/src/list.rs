@@ -1,9 +1,12 @@
-//! The stored answers: lines of numbers that say what the included sources
+//! The stored answers: lines of numbers that say what the original's sources
 //! answer to chosen inputs. crates/replay/README.md describes the lines.
 
 use crate::cases::*;
+use crate::layout::{row_count, token_count};
 use crate::parser::{Reading, read};
 use crate::plain::limit;
+use crate::plain::predicate::kind;
+use crate::plain::tokens::kind as token;
 use crate::{expression, plain};
 use std::fmt::Write;
 
@@ -20,10 +23,10 @@ pub fn parse_lines() -> Vec<String> {
 pub fn split_lines() -> Vec<String> {
     let mut lines = Lines::default();
     for tree in split_inputs() {
-        lines.push(split_line(&lay(&tree)));
+        lines.push(split_line(&predicate_of(&tree)));
     }
     for tree in lookup_inputs() {
-        for line in lookup_lines(&lay(&tree)) {
+        for line in lookup_lines(&predicate_of(&tree)) {
             lines.push(Some(line));
         }
     }
@@ -61,7 +64,7 @@ fn counted(line: &mut String, count: usize, values: impl IntoIterator<Item = u64
     numbers(line, values);
 }
 
-/// The line of a token table, with the included parser's answer; none if the
+/// The line of a token table, with the original parser's answer; none if the
 /// answer is one that the format does not share.
 pub fn parse_line(input: &Tokens) -> Option<String> {
     let answer = read(&input.text, &input.tokens);
@@ -76,15 +79,15 @@ pub fn parse_line(input: &Tokens) -> Option<String> {
     }
     let mut line = String::from("P");
     counted(&mut line, input.text.len(), input.text.iter().map(|b| u64::from(*b)));
-    counted(&mut line, input.tokens.len() / 3, input.tokens.iter().map(|n| u64::from(*n)));
+    counted(&mut line, token_count(&input.tokens), input.tokens.iter().map(|n| u64::from(*n)));
     match answer {
         Reading::Rows(rows) => {
             line.push_str(" A");
-            counted(&mut line, rows.len(), rows.into_iter().flatten());
+            counted(&mut line, rows.len(), rows.iter().flat_map(|row| row.numbers()));
         }
         Reading::Refused(number, place) => {
             line.push_str(" R");
-            numbers(&mut line, [number, place]);
+            numbers(&mut line, [u64::from(number), place]);
         }
         Reading::Outside => return None,
     }
@@ -95,11 +98,11 @@ pub fn parse_line(input: &Tokens) -> Option<String> {
 fn predicate(letter: &str, input: &Predicate) -> String {
     let mut line = String::from(letter);
     counted(&mut line, input.text.len(), input.text.iter().map(|b| u64::from(*b)));
-    counted(&mut line, input.rows.len() / 3, input.rows.iter().copied());
+    counted(&mut line, row_count(&input.rows), input.rows.iter().copied());
     line
 }
 
-/// The included source's clauses, if all of them are lists of literals and the
+/// The original's clauses, if all of them are lists of literals and the
 /// format's list is the same.
 fn shared_clauses(input: &Predicate) -> Option<Vec<expression::Clause>> {
     let expected = plain::split(&input.text, &input.rows).ok()?;
@@ -108,7 +111,7 @@ fn shared_clauses(input: &Predicate) -> Option<Vec<expression::Clause>> {
     (literals? == expected).then_some(clauses)
 }
 
-/// The line of a predicate with the included source's clauses; none if it has
+/// The line of a predicate with the original's clauses; none if it has
 /// rewritten an atom inside.
 pub fn split_line(input: &Predicate) -> Option<String> {
     let clauses = shared_clauses(input)?;
@@ -125,7 +128,7 @@ pub fn split_line(input: &Predicate) -> Option<String> {
     Some(line)
 }
 
-/// The lines of a predicate's clauses with the included source's lookups.
+/// The lines of a predicate's clauses with the original's lookups.
 pub fn lookup_lines(input: &Predicate) -> Vec<String> {
     let clauses = shared_clauses(input).unwrap_or_default();
     let lines = clauses.iter().enumerate().filter(|(_, clause)| !clause.altered);
@@ -135,8 +138,8 @@ pub fn lookup_lines(input: &Predicate) -> Vec<String> {
 /// The line of one clause; none if the format calls it another lookup.
 fn lookup_line(input: &Predicate, n: usize, clause: &expression::Clause) -> Option<String> {
     let expected = plain::lookup(&input.text, &input.rows, n).ok();
-    let expected = expected.map(|l| (l.column, l.rows));
-    if expected != clause.lookup.as_ref().map(|l| (l.column, l.rows.clone())) {
+    let expected = expected.map(|l| (l.column, l.constants));
+    if expected != clause.lookup.as_ref().map(|l| (l.column, l.constants.clone())) {
         return None;
     }
     let mut line = predicate("L", input);
@@ -146,7 +149,8 @@ fn lookup_line(input: &Predicate, n: usize, clause: &expression::Clause) -> Opti
         Some(lookup) => {
             line.push_str(" V");
             numbers(&mut line, [lookup.column]);
-            counted(&mut line, lookup.rows.len(), lookup.rows.iter().flatten().copied());
+            let constants = lookup.constants.iter().flatten().copied();
+            counted(&mut line, lookup.constants.len(), constants);
         }
     }
     Some(line)
@@ -274,7 +278,7 @@ fn parse_inputs() -> Vec<Tokens> {
     lines.push(format!("a{}", " !".repeat(30)));
     lines.push(format!("a{}", " IS NOT NULL".repeat(12)));
     lines.push(format!("f ( {} a )", "a , ".repeat(25)));
-    for kind in 1..=88 {
+    for kind in 1..=token::LAST {
         let word = word_of(kind);
         lines.push(word.to_string());
         lines.push(format!("a {word}"));
@@ -328,12 +332,12 @@ fn odd_spans() -> Vec<Tokens> {
 
 /// An atom that looks nothing up.
 fn plain_atom(n: u64) -> Tree {
-    Tree::Binary(12, Box::new(Tree::Column(n)), Box::new(Tree::Integer(n as i64)))
+    binary(kind::LESS_THAN, Tree::Column(n), Tree::Integer(n as i64))
 }
 
 /// A chain of one kind over atoms, leaning to the left.
 fn chain(kind: u64, atoms: u64) -> Tree {
-    let link = |tree, n| Tree::Binary(kind, Box::new(tree), Box::new(Tree::Column(n)));
+    let link = |tree, n| binary(kind, tree, Tree::Column(n));
     (1..atoms).fold(Tree::Column(0), link)
 }
 
@@ -345,12 +349,12 @@ fn split_inputs() -> Vec<Tree> {
         not(not(not(column(0)))),
         and(plain_atom(1), or(plain_atom(2), not(plain_atom(3)))),
         or(plain_atom(1), and(and(plain_atom(2), plain_atom(3)), plain_atom(4))),
-        or(chain(7, 16), chain(7, 16)),
-        chain(7, 40),
-        chain(8, 40),
-        not(chain(7, 40)),
-        not(chain(8, 40)),
-        or(column(0), chain(7, 40)),
+        or(chain(kind::AND, 16), chain(kind::AND, 16)),
+        chain(kind::AND, 40),
+        chain(kind::OR, 40),
+        not(chain(kind::AND, 40)),
+        not(chain(kind::OR, 40)),
+        or(column(0), chain(kind::AND, 40)),
         or(column(9), column(9)),
         and(Tree::Null, Tree::Boolean(false)),
         // NOT below an atom is the atom's own affair.

@@ -1,5 +1,9 @@
-//! The included parser's answer to a token table.
+//! The original parser's answer to a token table.
 
+use crate::layout::{Row, TOKEN_WIDTH, token_count};
+use crate::plain::reading::syntax;
+use crate::plain::refusal::{BAD_NUMBER, END, LEFT_OVER, NO_ATOM, WRONG_TOKEN};
+use crate::plain::tokens::kind;
 use crate::sql::parser::ast::{Expression, Literal, Operator};
 use crate::sql::parser::lexer::fixed;
 use crate::sql::parser::parser::{Stopped, read_whole};
@@ -7,13 +11,13 @@ use crate::sql::parser::{Lexer, Progress, Token};
 
 pub use crate::plain::tokens::table_fault;
 
-/// What the included parser makes of a token table.
+/// What the original parser makes of a token table.
 #[derive(Clone, Debug, PartialEq, Eq)]
 pub enum Reading {
     /// It accepts: the tree as syntax rows.
-    Rows(Vec<[u64; 3]>),
+    Rows(Vec<Row>),
     /// It refuses: the refusal number and the place, in the format's terms.
-    Refused(u64, u64),
+    Refused(u32, u64),
     /// It cannot be asked: a number that it came to see is not UTF-8.
     Outside,
 }
@@ -21,13 +25,13 @@ pub enum Reading {
 /// Tables longer than this are read on a large stack.
 const SHALLOW: usize = 100;
 
-/// Asks the included parser to read a good token table as one expression.
+/// Asks the original parser to read a good token table as one expression.
 ///
 /// The parser has no limit on levels or rows, so refusals 1, 2, 8 and 9 never
 /// come from here; [`table_fault`] decides 1 and 2.
 pub fn read(text: &[u8], tokens: &[u32]) -> Reading {
-    if tokens.len() > 3 * SHALLOW {
-        crate::deep(|| read_here(text, tokens))
+    if token_count(tokens) > SHALLOW {
+        crate::on_large_stack(|| read_here(text, tokens))
     } else {
         read_here(text, tokens)
     }
@@ -43,7 +47,7 @@ pub fn read_here(text: &[u8], tokens: &[u32]) -> Reading {
     }
     match answer {
         Ok(tree) => Reading::Rows(rows_of(&tree, text, tokens)),
-        Err(_) if progress.past_end.get() => Reading::Refused(3, tokens.len() as u64 / 3),
+        Err(_) if progress.past_end.get() => Reading::Refused(END, token_count(tokens) as u64),
         Err(stopped) => Reading::Refused(refusal(stopped), progress.handed.get() as u64 - 1),
     }
 }
@@ -51,17 +55,17 @@ pub fn read_here(text: &[u8], tokens: &[u32]) -> Reading {
 /// The tokens of a good table as the parser takes them, for measuring how fast
 /// it reads when they are made already: names and strings hold their bytes.
 pub fn tokens_of(text: &[u8], tokens: &[u32]) -> Vec<Token> {
-    let token = |token: &[u32]| {
-        let span = token[1] as usize..token[1] as usize + token[2] as usize;
-        let content = String::from_utf8_lossy(&text[span]).into_owned();
-        match token[0] {
-            1 => Token::Number(content),
-            2 => Token::String(content),
-            3 => Token::Ident(content),
+    let token = |[kind, start, length]: &[u32; TOKEN_WIDTH]| {
+        let bytes = &text[*start as usize..][..*length as usize];
+        let content = String::from_utf8_lossy(bytes).into_owned();
+        match *kind {
+            kind::NUMBER => Token::Number(content),
+            kind::STRING => Token::String(content),
+            kind::IDENT => Token::Ident(content),
             kind => fixed(kind).expect("the table was checked"),
         }
     };
-    tokens.chunks(3).map(token).collect()
+    tokens.as_chunks().0.iter().map(token).collect()
 }
 
 /// The tree that the parser makes of tokens, if it accepts them. They are
@@ -77,68 +81,70 @@ pub fn tree_of_given(tokens: Vec<Token>) -> Option<Expression> {
 }
 
 /// The format's number for a way to stop before the end of the tokens.
-fn refusal(stopped: Stopped) -> u64 {
+fn refusal(stopped: Stopped) -> u32 {
     match stopped {
-        Stopped::NoAtom => 4,
-        Stopped::WrongToken => 5,
-        Stopped::LeftOver => 6,
-        Stopped::BadNumber => 7,
+        Stopped::NoAtom => NO_ATOM,
+        Stopped::WrongToken => WRONG_TOKEN,
+        Stopped::LeftOver => LEFT_OVER,
+        Stopped::BadNumber => BAD_NUMBER,
     }
 }
 
 /// A tree as syntax rows in post-order.
-fn rows_of(tree: &Expression, text: &[u8], tokens: &[u32]) -> Vec<[u64; 3]> {
-    let mut layer = Layer { rows: Vec::new(), text, tokens, floats: 0 };
-    layer.lay(tree);
-    layer.rows
+fn rows_of(tree: &Expression, text: &[u8], tokens: &[u32]) -> Vec<Row> {
+    let mut writer = RowWriter { rows: Vec::new(), text, tokens, floats: 0 };
+    writer.write(tree);
+    writer.rows
 }
 
-/// Lays a tree out as rows.
-struct Layer<'a> {
-    rows: Vec<[u64; 3]>,
+/// Writes a tree as rows.
+struct RowWriter<'a> {
+    rows: Vec<Row>,
     text: &'a [u8],
     tokens: &'a [u32],
     /// The tokens before this one are no longer candidates for a float.
     floats: usize,
 }
 
-impl Layer<'_> {
+impl RowWriter<'_> {
     /// Adds a row and answers its number.
     fn push(&mut self, kind: u64, x: u64, y: u64) -> u64 {
-        self.rows.push([kind, x, y]);
+        self.rows.push(Row::new(kind, x, y));
         self.rows.len() as u64 - 1
     }
 
-    /// Lays out a tree and answers its root's row.
-    fn lay(&mut self, tree: &Expression) -> u64 {
+    /// Writes a tree and answers its root's row.
+    fn write(&mut self, tree: &Expression) -> u64 {
         match tree {
-            Expression::All => self.push(1, 0, 0),
-            Expression::Column(None, name) => self.push(9, token(name), 0),
-            Expression::Column(Some(table), name) => self.push(10, token(table), token(name)),
+            Expression::All => self.push(syntax::ALL, 0, 0),
+            Expression::Column(None, name) => self.push(syntax::COLUMN, token(name), 0),
+            Expression::Column(Some(table), name) => {
+                self.push(syntax::QUALIFIED, token(table), token(name))
+            }
             Expression::Literal(literal) => self.literal(literal),
             Expression::Function(name, arguments) => {
                 for argument in arguments {
-                    self.lay(argument);
+                    self.write(argument);
                 }
-                self.push(11, token(name), arguments.len() as u64)
+                self.push(syntax::FUNCTION, token(name), arguments.len() as u64)
             }
             Expression::Operator(operator) => self.operator(operator),
         }
     }
 
-    /// Lays out a literal.
+    /// Writes a literal.
     fn literal(&mut self, literal: &Literal) -> u64 {
         match literal {
-            Literal::Null => self.push(8, 0, 0),
-            Literal::Boolean(b) => self.push(7, u64::from(*b), 0),
-            Literal::Integer(i) => self.push(2, *i as u64, 0),
-            Literal::String(s) => self.push(6, token(s), 0),
+            Literal::Null => self.push(syntax::NULL, 0, 0),
+            Literal::Boolean(b) => self.push(syntax::BOOLEAN, u64::from(*b), 0),
+            Literal::Integer(i) => self.push(syntax::INTEGER, *i as u64, 0),
+            Literal::String(s) => self.push(syntax::STRING, token(s), 0),
             Literal::Float(_) => {
                 let (token, kind) = self.next_float();
                 match kind {
-                    27 => self.push(4, 0, 0),
-                    24 => self.push(5, 0, 0),
-                    _ => self.push(3, token, 0),
+                    kind::INFINITY => self.push(syntax::INFINITY, 0, 0),
+                    kind::NAN => self.push(syntax::NAN, 0, 0),
+                    _ => self.push(syntax::FLOAT, token, 0),
                 }
             }
         }
@@ -150,60 +156,62 @@ impl Layer<'_> {
     fn next_float(&mut self) -> (u64, u32) {
         loop {
             let at = self.floats;
-            let [kind, start, length] = self.tokens[3 * at..3 * at + 3] else { unreachable!() };
+            let [kind, start, length] = self.tokens.as_chunks::<TOKEN_WIDTH>().0[at];
             self.floats += 1;
             let bytes = || &self.text[start as usize..(start + length) as usize];
             match kind {
-                24 | 27 => return (at as u64, kind),
-                1 if !bytes().iter().all(u8::is_ascii_digit) => return (at as u64, kind),
+                kind::NAN | kind::INFINITY => return (at as u64, kind),
+                kind::NUMBER if !bytes().iter().all(u8::is_ascii_digit) => {
+                    return (at as u64, kind);
+                }
                 _ => {}
             }
         }
     }
 
-    /// Lays out an operator with its operands.
+    /// Writes an operator with its operands.
     fn operator(&mut self, operator: &Operator) -> u64 {
         use Operator::*;
         match operator {
-            Identity(a) => self.unary(12, a),
-            Negate(a) => self.unary(13, a),
-            Not(a) => self.unary(14, a),
-            Factorial(a) => self.unary(15, a),
+            Identity(a) => self.unary(syntax::IDENTITY, a),
+            Negate(a) => self.unary(syntax::NEGATE, a),
+            Not(a) => self.unary(syntax::NOT, a),
+            Factorial(a) => self.unary(syntax::FACTORIAL, a),
             Is(a, literal) => self.is(a, literal),
-            And(a, b) => self.binary(17, a, b),
-            Or(a, b) => self.binary(18, a, b),
-            Equal(a, b) => self.binary(19, a, b),
-            NotEqual(a, b) => self.binary(20, a, b),
-            GreaterThan(a, b) => self.binary(21, a, b),
-            GreaterThanOrEqual(a, b) => self.binary(22, a, b),
-            LessThan(a, b) => self.binary(23, a, b),
-            LessThanOrEqual(a, b) => self.binary(24, a, b),
-            Like(a, b) => self.binary(25, a, b),
-            Add(a, b) => self.binary(26, a, b),
-            Subtract(a, b) => self.binary(27, a, b),
-            Multiply(a, b) => self.binary(28, a, b),
-            Divide(a, b) => self.binary(29, a, b),
-            Remainder(a, b) => self.binary(30, a, b),
-            Exponentiate(a, b) => self.binary(31, a, b),
+            And(a, b) => self.binary(syntax::AND, a, b),
+            Or(a, b) => self.binary(syntax::OR, a, b),
+            Equal(a, b) => self.binary(syntax::EQUAL, a, b),
+            NotEqual(a, b) => self.binary(syntax::NOT_EQUAL, a, b),
+            GreaterThan(a, b) => self.binary(syntax::GREATER_THAN, a, b),
+            GreaterThanOrEqual(a, b) => self.binary(syntax::GREATER_THAN_OR_EQUAL, a, b),
+            LessThan(a, b) => self.binary(syntax::LESS_THAN, a, b),
+            LessThanOrEqual(a, b) => self.binary(syntax::LESS_THAN_OR_EQUAL, a, b),
+            Like(a, b) => self.binary(syntax::LIKE, a, b),
+            Add(a, b) => self.binary(syntax::ADD, a, b),
+            Subtract(a, b) => self.binary(syntax::SUBTRACT, a, b),
+            Multiply(a, b) => self.binary(syntax::MULTIPLY, a, b),
+            Divide(a, b) => self.binary(syntax::DIVIDE, a, b),
+            Remainder(a, b) => self.binary(syntax::REMAINDER, a, b),
+            Exponentiate(a, b) => self.binary(syntax::EXPONENTIATE, a, b),
         }
     }
 
-    /// Lays out an operand, then its operator.
+    /// Writes an operand, then its operator.
     fn unary(&mut self, kind: u64, operand: &Expression) -> u64 {
-        let x = self.lay(operand);
+        let x = self.write(operand);
         self.push(kind, x, 0)
     }
 
-    /// Lays out two operands, then their operator.
+    /// Writes two operands, then their operator.
     fn binary(&mut self, kind: u64, left: &Expression, right: &Expression) -> u64 {
-        let x = self.lay(left);
-        let y = self.lay(right);
+        let x = self.write(left);
+        let y = self.write(right);
         self.push(kind, x, y)
     }
 
-    /// Lays out IS NULL or IS NAN. The NAN token is used up as a float's is.
+    /// Writes IS NULL or IS NAN. The NAN token is used up as a float's is.
     fn is(&mut self, operand: &Expression, literal: &Literal) -> u64 {
-        let x = self.lay(operand);
+        let x = self.write(operand);
         let y = match literal {
             Literal::Null => 0,
             _ => {
@@ -211,7 +219,7 @@ impl Layer<'_> {
                 1
             }
         };
-        self.push(16, x, y)
+        self.push(syntax::IS, x, y)
     }
 }
 

@@ -1,8 +1,10 @@
-//! The cell rules against what the included source evaluates a literal to.
+//! The cell rules against what the original evaluates a literal to.
 
 use oracle::cases::*;
 use oracle::expression::{Evaluated, evaluate};
+use oracle::layout::{row_at, row_count};
 use oracle::plain::cells::{self, Kleene, Value};
+use std::mem::discriminant;
 
 /// Constants of every kind, with the numbers that lie near one another.
 fn constants() -> Vec<Tree> {
@@ -19,22 +21,11 @@ fn constants() -> Vec<Tree> {
 
 /// The value of a constant.
 fn value(constant: &Tree) -> Value {
-    let made = lay(constant);
-    Value::of_row(&made.text, &[made.rows[0], made.rows[1], made.rows[2]])
+    let made = predicate_of(constant);
+    Value::of(&made.text, row_at(&made.rows, 0).constant())
 }
 
-/// The kinds of value, by number.
-fn kind(value: &Value) -> u64 {
-    match value {
-        Value::Null => 1,
-        Value::Boolean(_) => 2,
-        Value::Integer(_) => 3,
-        Value::Float(_) => 4,
-        Value::String(_) => 5,
-    }
-}
-
-/// What the included source does with an Equal where the rules differ.
+/// What the original does with an Equal where the rules differ.
 fn other_equal(left: &Value, right: &Value) -> Option<Evaluated> {
     match (left, right) {
         (Value::Null, _) | (_, Value::Null) => None,
@@ -43,7 +34,7 @@ fn other_equal(left: &Value, right: &Value) -> Option<Evaluated> {
             let same = *i as f64 == f64::from_bits(*bits);
             same.then_some(Evaluated::Truth(Kleene::True))
         }
-        _ => (kind(left) != kind(right)).then_some(Evaluated::Refused),
+        _ => (discriminant(left) != discriminant(right)).then_some(Evaluated::Refused),
     }
 }
 
@@ -58,8 +49,8 @@ fn other_is(cell: &Value, y: u64) -> Option<Evaluated> {
 
 /// Compares an atom and its negation on one cell.
 fn compare(atom: &Tree, cell: &Value, other: Option<Evaluated>) {
-    let made = lay(atom);
-    let root = made.rows.len() as u64 / 3 - 1;
+    let made = predicate_of(atom);
+    let root = row_count(&made.rows) as u64 - 1;
     for literal in [2 * root, 2 * root + 1] {
         let plain = cells::literal(&made.text, &made.rows, literal, cell).unwrap();
         let expected = match other {
@@ -67,9 +58,9 @@ fn compare(atom: &Tree, cell: &Value, other: Option<Evaluated>) {
             Some(Evaluated::Truth(truth)) if literal % 2 == 1 => Evaluated::Truth(truth.not()),
             Some(other) => other,
         };
-        let included = evaluate(&made.text, &made.rows, literal, std::slice::from_ref(cell));
-        assert_eq!(included, expected, "{atom:?} on {cell:?}");
-        assert!(other.is_none() || included != Evaluated::Truth(plain), "{atom:?} on {cell:?}");
+        let original = evaluate(&made.text, &made.rows, literal, std::slice::from_ref(cell));
+        assert_eq!(original, expected, "{atom:?} on {cell:?}");
+        assert!(other.is_none() || original != Evaluated::Truth(plain), "{atom:?} on {cell:?}");
     }
 }
 
@@ -109,8 +100,8 @@ fn connectives_on_every_choice_are_shared() {
     for a in Kleene::ALL {
         for b in Kleene::ALL {
             let truth = |tree: &Tree| {
-                let made = lay(tree);
-                let root = made.rows.len() as u64 / 3 - 1;
+                let made = predicate_of(tree);
+                let root = row_count(&made.rows) as u64 - 1;
                 evaluate(&made.text, &made.rows, 2 * root, &[cell(a), cell(b)])
             };
             let (x, y) = (|| Tree::Column(0), || Tree::Column(1));

@@ -1,20 +1,22 @@
-//! The plain clause list against the included source's, on every small tree
+//! The plain clause list against the original's, on every small tree
 //! and on random ones.
 
 use oracle::cases::*;
 use oracle::expression;
+use oracle::layout::row_at;
 use oracle::plain::cells::Kleene;
+use oracle::plain::predicate::kind::{AND, IDENTITY, NOT, OR};
 use oracle::plain::refusal::*;
-use oracle::plain::{self, limit};
+use oracle::plain::{self, Refusal, limit};
 
 /// Whether an AND, or a NOT over something other than an atom, is left.
 type Left = (bool, bool);
 
-/// Compares the lists of one tree. They agree where the included source leaves
+/// Compares the lists of one tree. They agree where the original leaves
 /// nothing, and their atoms where it rewrites nothing inside them; answers what
 /// it left.
 fn compare(tree: &Tree) -> Left {
-    let made = lay(tree);
+    let made = predicate_of(tree);
     let expected = plain::split(&made.text, &made.rows).expect("a small tree");
     let clauses = expression::split(&made.text, &made.rows);
     let left = (clauses.iter().any(|c| c.and_left), clauses.iter().any(|c| c.not_left));
@@ -30,7 +32,7 @@ fn compare(tree: &Tree) -> Left {
     left
 }
 
-/// What the included source will leave, told from the tree alone.
+/// What the original will leave, told from the tree alone.
 ///
 /// It rewrites a node once, before it goes on to the operands. Where two NOTs
 /// stand on one another both go, and if the next is a NOT again, that one stays
@@ -50,18 +52,19 @@ fn predicted(tree: &Tree) -> Left {
 fn pushed(tree: &Tree, mut handed_down: bool) -> Option<Tree> {
     let mut nots = usize::from(handed_down);
     let mut tree = tree;
-    while let Tree::Unary(9, inner) = tree {
+    while let Tree::Unary(NOT, inner) = tree {
         nots += 1;
         tree = inner;
     }
     match tree {
-        Tree::Binary(kind @ (7 | 8), left, right) if nots <= 2 => {
+        Tree::Binary(kind @ (AND | OR), left, right) if nots <= 2 => {
             handed_down = nots == 1;
-            let kind = if handed_down { 15 - kind } else { *kind };
+            let is_and = (*kind == AND) != handed_down;
             let left = pushed(left, handed_down)?;
-            Some(Tree::Binary(kind, Box::new(left), Box::new(pushed(right, handed_down)?)))
+            let right = pushed(right, handed_down)?;
+            Some(if is_and { and(left, right) } else { or(left, right) })
         }
-        Tree::Binary(7 | 8, ..) => None,
+        Tree::Binary(AND | OR, ..) => None,
         atom if nots <= 3 || nots == 5 => {
             Some(if nots % 2 == 1 { not(atom.clone()) } else { atom.clone() })
         }
@@ -72,10 +75,10 @@ fn pushed(tree: &Tree, mut handed_down: bool) -> Option<Tree> {
 /// Whether an AND will be left under an OR.
 fn and_below_or(tree: &Tree) -> bool {
     match tree {
-        Tree::Binary(7, left, right) => and_below_or(left) || and_below_or(right),
-        Tree::Binary(8, left, right) => match (left.as_ref(), right.as_ref()) {
-            (Tree::Binary(7, a, b), r) => or_leaves(a, r) || or_leaves(b, r),
-            (l, Tree::Binary(7, a, b)) => or_leaves(l, a) || or_leaves(l, b),
+        Tree::Binary(AND, left, right) => and_below_or(left) || and_below_or(right),
+        Tree::Binary(OR, left, right) => match (left.as_ref(), right.as_ref()) {
+            (Tree::Binary(AND, a, b), r) => or_leaves(a, r) || or_leaves(b, r),
+            (l, Tree::Binary(AND, a, b)) => or_leaves(l, a) || or_leaves(l, b),
             (l, r) => has_and(l) || has_and(r),
         },
         _ => false,
@@ -90,8 +93,8 @@ fn or_leaves(left: &Tree, right: &Tree) -> bool {
 /// Whether an AND stands in a tree without NOTs over it.
 fn has_and(tree: &Tree) -> bool {
     match tree {
-        Tree::Binary(7, ..) => true,
-        Tree::Binary(8, left, right) => has_and(left) || has_and(right),
+        Tree::Binary(AND, ..) => true,
+        Tree::Binary(OR, left, right) => has_and(left) || has_and(right),
         _ => false,
     }
 }
@@ -100,8 +103,8 @@ fn has_and(tree: &Tree) -> bool {
 /// alone.
 fn altered_below(tree: &Tree) -> bool {
     match tree {
-        Tree::Unary(9, inner) => altered_below(inner),
-        Tree::Binary(7 | 8, left, right) => altered_below(left) || altered_below(right),
+        Tree::Unary(NOT, inner) => altered_below(inner),
+        Tree::Binary(AND | OR, left, right) => altered_below(left) || altered_below(right),
         atom => is_rewritten(atom),
     }
 }
@@ -113,9 +116,11 @@ fn is_rewritten(tree: &Tree) -> bool {
         _ => false,
     };
     match tree {
-        Tree::Unary(kind, inner) => (*kind == 9 && has(inner, &[7, 8, 9])) || is_rewritten(inner),
+        Tree::Unary(kind, inner) => {
+            (*kind == NOT && has(inner, &[AND, OR, NOT])) || is_rewritten(inner)
+        }
         Tree::Binary(kind, left, right) => {
-            let over_and = *kind == 8 && (has(left, &[7]) || has(right, &[7]));
+            let over_and = *kind == OR && (has(left, &[AND]) || has(right, &[AND]));
             over_and || is_rewritten(left) || is_rewritten(right)
         }
         Tree::Is(inner, _) => is_rewritten(inner),
@@ -151,7 +156,7 @@ fn random_trees() {
     let rounds = if cfg!(debug_assertions) { 500 } else { 30_000 };
     let mut dice = Dice::new(21);
     let small = |tree: &Tree| {
-        let made = lay(tree);
+        let made = predicate_of(tree);
         plain::split(&made.text, &made.rows).is_ok_and(|list| list.len() < 300)
     };
     let trees: Vec<Tree> = (0..rounds)
@@ -171,7 +176,7 @@ fn rewriting_inside_atoms_is_told_from_the_tree() {
         match dice.below(4) {
             0 => is(inside, 1),
             1 => equal(Tree::Null, inside),
-            2 => Tree::Unary(18, Box::new(inside)),
+            2 => unary(IDENTITY, inside),
             _ => random_atom(dice),
         }
     };
@@ -186,9 +191,9 @@ fn rewriting_inside_atoms_is_told_from_the_tree() {
 fn value(tree: &Tree, cells: &[Kleene]) -> Kleene {
     match tree {
         Tree::Column(c) => cells[*c as usize],
-        Tree::Unary(9, inner) => value(inner, cells).not(),
-        Tree::Binary(7, left, right) => value(left, cells).and(value(right, cells)),
-        Tree::Binary(8, left, right) => value(left, cells).or(value(right, cells)),
+        Tree::Unary(NOT, inner) => value(inner, cells).not(),
+        Tree::Binary(AND, left, right) => value(left, cells).and(value(right, cells)),
+        Tree::Binary(OR, left, right) => value(left, cells).or(value(right, cells)),
         _ => unreachable!("shapes have no other nodes"),
     }
 }
@@ -199,14 +204,14 @@ fn choices(cells: u32) -> Vec<Vec<Kleene>> {
     (0..3usize.pow(cells)).map(|n| (0..cells).map(|place| cell(n, place)).collect()).collect()
 }
 
-/// Holds the plain list, and what the included source makes of the tree, to
+/// Holds the plain list, and what the original makes of the tree, to
 /// the tree's own value, whatever its cells.
 fn keeps_value(tree: &Tree, choices: &[Vec<Kleene>]) {
-    let made = lay(tree);
+    let made = predicate_of(tree);
     let clauses = plain::split(&made.text, &made.rows).unwrap();
     for cells in choices {
         let expected = value(tree, cells);
-        let cell = |row: usize| cells[made.rows[3 * row + 1] as usize];
+        let cell = |row: usize| cells[row_at(&made.rows, row).x as usize];
         let literal = |l: &u64| {
             let cell = cell(*l as usize / 2);
             if l % 2 == 1 { cell.not() } else { cell }
@@ -230,26 +235,34 @@ fn lists_keep_the_kleene_value() {
 fn long_chains_are_shared() {
     let column = Tree::Column;
     let chain = |kind: u64, count: u64| {
-        let link = |t, c| Tree::Binary(kind, Box::new(t), Box::new(column(c)));
+        let link = |t, c| binary(kind, t, column(c));
         (1..count).fold(column(0), link)
     };
     let trees = [
-        chain(7, 1_024),
-        chain(8, 1_024),
-        not(chain(7, 1_023)),
-        not(chain(8, 1_023)),
-        or(column(0), chain(7, 1_000)),
-        or(chain(7, 32), chain(7, 32)),
+        chain(AND, 1_024),
+        chain(OR, 1_024),
+        not(chain(AND, 1_023)),
+        not(chain(OR, 1_023)),
+        or(column(0), chain(AND, 1_000)),
+        or(chain(AND, 32), chain(AND, 32)),
     ];
     for tree in trees {
-        assert_eq!(oracle::deep(|| compare(&tree)), (false, false));
+        assert_eq!(oracle::on_large_stack(|| compare(&tree)), (false, false));
     }
+}
+
+/// The refusal of rows that are no predicate.
+fn fault(text: &[u8], rows: &[u64]) -> Refusal {
+    plain::check(text, rows).unwrap_err()
+}
+
+/// The rows are a predicate.
+fn good(text: &[u8], rows: &[u64]) {
+    assert!(plain::check(text, rows).is_ok(), "{rows:?}");
 }
 
 #[test]
 fn checks_of_rows() {
-    let fault = |text: &[u8], rows: &[u64]| plain::check(text, rows).unwrap_err();
-    let good = |text: &[u8], rows: &[u64]| assert!(plain::check(text, rows).is_ok(), "{rows:?}");
     assert_eq!(fault(b"", &[]), (BAD_TREE, 0));
     assert_eq!(fault(b"", &[1, 0]), (BAD_TREE, 0));
     assert_eq!(fault(b"", &[0, 0, 0, 1]), (BAD_TREE, 1));
@@ -271,7 +284,15 @@ fn checks_of_rows() {
     good(b"ab", &[5, 2, 0]);
     assert_eq!(fault(b"ab", &[5, 1, 2]), (BAD_TREE, 0));
     assert_eq!(fault(b"ab", &[5, u64::MAX, 3]), (BAD_TREE, 0));
-    // Operands must be the whole subtrees directly before.
+    // Is takes 0 or 1; the first bad row wins over several roots.
+    good(b"", &[6, 0, 0, 13, 0, 1]);
+    assert_eq!(fault(b"", &[6, 0, 0, 13, 0, 2]), (BAD_TREE, 1));
+    assert_eq!(fault(b"", &[1, 0, 0, 1, 0, 0, 0, 0, 0]), (BAD_TREE, 2));
+}
+
+/// Operands must be the whole subtrees directly before their row.
+#[test]
+fn checks_of_operands() {
     good(b"", &[6, 0, 0, 9, 0, 0]);
     assert_eq!(fault(b"", &[6, 0, 0, 9, 0, 1]), (BAD_TREE, 1));
     assert_eq!(fault(b"", &[6, 0, 0, 9, 1, 0]), (BAD_TREE, 1));
@@ -283,15 +304,11 @@ fn checks_of_rows() {
     assert_eq!(fault(b"", &[6, 0, 0, 6, 1, 0, 9, 1, 0]), (BAD_TREE, 2));
     good(b"", &[6, 0, 0, 6, 1, 0, 9, 1, 0, 7, 0, 2]);
     assert_eq!(fault(b"", &[6, 0, 0, 6, 1, 0, 9, 1, 0, 7, 1, 2]), (BAD_TREE, 3));
-    // Is takes 0 or 1; the first bad row wins over several roots.
-    good(b"", &[6, 0, 0, 13, 0, 1]);
-    assert_eq!(fault(b"", &[6, 0, 0, 13, 0, 2]), (BAD_TREE, 1));
-    assert_eq!(fault(b"", &[1, 0, 0, 1, 0, 0, 0, 0, 0]), (BAD_TREE, 2));
 }
 
 #[test]
 fn lists_that_are_too_short() {
-    let made = lay(&or(and(Tree::Column(0), Tree::Column(1)), Tree::Column(2)));
+    let made = predicate_of(&or(and(Tree::Column(0), Tree::Column(1)), Tree::Column(2)));
     let into = |literals, ends| plain::split_into(&made.text, &made.rows, literals, ends);
     assert_eq!(into(4, 2), Ok((vec![0, 6, 2, 6], vec![2, 4])));
     assert_eq!(into(3, 2), Err((NO_LIST, 0)));

@@ -1,21 +1,24 @@
 //! One test for each class in docs/DIFFERENCES.md, on its smallest input: what
-//! the format says, and what the included sources do.
+//! the format says, and what the original's sources do.
 
 use oracle::cases::*;
 use oracle::expression::{self, Evaluated, evaluate, values_panic};
+use oracle::layout::{Row, row_count};
 use oracle::parser::{Reading, read};
 use oracle::plain::cells::{self, Kleene, Value};
+use oracle::plain::predicate::kind;
+use oracle::plain::reading::syntax;
 use oracle::plain::refusal::*;
-use oracle::plain::{self, limit};
+use oracle::plain::{self, Refusal, limit};
 
 /// The format's answer to words under its own limits, with a table of rows.
-fn format(line: &str, room: usize) -> Result<usize, (u64, u64)> {
+fn by_the_format(line: &str, room: usize) -> Result<usize, Refusal> {
     let made = words(line);
     plain::parse(&made.text, &made.tokens, room, limit::LEVELS).map(|rows| rows.len())
 }
 
-/// The included parser's answer: how many rows its tree has, or its refusal.
-fn included(line: &str) -> Result<usize, (u64, u64)> {
+/// The original parser's answer: how many rows its tree has, or its refusal.
+fn original(line: &str) -> Result<usize, Refusal> {
     let made = words(line);
     match read(&made.text, &made.tokens) {
         Reading::Rows(rows) => Ok(rows.len()),
@@ -27,32 +30,36 @@ fn included(line: &str) -> Result<usize, (u64, u64)> {
 #[test]
 fn class_1_levels() {
     let line = format!("{}a", "- ".repeat(64));
-    assert_eq!(format(&line, limit::ROWS), Err((TOO_DEEP, 64)));
-    assert_eq!(included(&line), Ok(65));
+    assert_eq!(by_the_format(&line, limit::ROWS), Err((TOO_DEEP, 64)));
+    assert_eq!(original(&line), Ok(65));
     // A refusal that would come later gives way, too.
     let line = "( ".repeat(64);
-    assert_eq!(format(&line, limit::ROWS), Err((TOO_DEEP, 64)));
-    assert_eq!(included(&line), Err((END, 64)));
-    // Nothing but the stack ends the included parser's recursion.
+    assert_eq!(by_the_format(&line, limit::ROWS), Err((TOO_DEEP, 64)));
+    assert_eq!(original(&line), Err((END, 64)));
+    // Nothing but the stack ends the original parser's recursion.
     let line = format!("{}a", "- ".repeat(4_000));
-    assert_eq!(included(&line), Ok(4_001));
+    assert_eq!(original(&line), Ok(4_001));
 }
 
 #[test]
 fn class_2_rows() {
-    assert_eq!(format("a", 0), Err((NO_ROOM, 1)));
-    assert_eq!(included("a"), Ok(1));
+    assert_eq!(by_the_format("a", 0), Err((NO_ROOM, 1)));
+    assert_eq!(original("a"), Ok(1));
     let line = format!("{}1", "1 + ".repeat(1_024));
-    assert_eq!(format(&line, 9_999), Err((NO_ROOM, 2_049)));
-    assert_eq!(included(&line), Ok(2_049));
+    assert_eq!(by_the_format(&line, 9_999), Err((NO_ROOM, 2_049)));
+    assert_eq!(original(&line), Ok(2_049));
 }
 
-/// A number token that only the included parser takes.
+/// A number token that only the original parser takes.
 fn odd_number(spelling: &str) {
     let line = format!("#{spelling}");
-    assert_eq!(format(&line, limit::ROWS), Err((BAD_NUMBER, 0)), "{spelling}");
+    assert_eq!(by_the_format(&line, limit::ROWS), Err((BAD_NUMBER, 0)), "{spelling}");
     let made = words(&line);
-    assert_eq!(read(&made.text, &made.tokens), Reading::Rows(vec![[3, 0, 0]]), "{spelling}");
+    assert_eq!(
+        read(&made.text, &made.tokens),
+        Reading::Rows(vec![Row::new(syntax::FLOAT, 0, 0)]),
+        "{spelling}"
+    );
 }
 
 #[test]
@@ -71,14 +78,14 @@ fn class_5_number_words() {
 }
 
 /// The format's clauses of a tree.
-fn clauses(tree: &Tree) -> Result<Vec<Vec<u64>>, (u64, u64)> {
-    let made = lay(tree);
+fn clauses(tree: &Tree) -> Result<Vec<Vec<u64>>, Refusal> {
+    let made = predicate_of(tree);
     plain::split(&made.text, &made.rows)
 }
 
-/// The included source's elements of a tree.
+/// The original's elements of a tree.
 fn elements(tree: &Tree) -> Vec<expression::Clause> {
-    let made = lay(tree);
+    let made = predicate_of(tree);
     expression::split(&made.text, &made.rows)
 }
 
@@ -131,24 +138,24 @@ fn class_8_no_clause_limit() {
     assert_eq!(elements(&tree).len(), 1_056);
 }
 
-/// The lookup of the first clause: the format's and the included source's.
+/// The lookup of the first clause: the format's and the original's.
 fn lookups(tree: &Tree) -> [Option<(u64, Vec<Value>)>; 2] {
-    let made = lay(tree);
+    let made = predicate_of(tree);
     let plain = plain::lookup(&made.text, &made.rows, 0).ok().map(|l| (l.column, l.values));
-    let included = elements(tree).remove(0).lookup.map(|l| (l.column, l.values));
-    [plain, included]
+    let original = elements(tree).remove(0).lookup.map(|l| (l.column, l.values));
+    [plain, original]
 }
 
 #[test]
 fn class_9_below_atoms() {
     let c = || not(not(Tree::Column(0)));
-    let [plain, included] = lookups(&is(c(), 0));
+    let [plain, original] = lookups(&is(c(), 0));
     assert_eq!(plain, None);
-    assert_eq!(included, Some((0, vec![Value::Null])));
+    assert_eq!(original, Some((0, vec![Value::Null])));
     assert!(elements(&is(c(), 0))[0].altered);
-    let [plain, included] = lookups(&equal(c(), Tree::Integer(1)));
+    let [plain, original] = lookups(&equal(c(), Tree::Integer(1)));
     assert_eq!(plain, None);
-    assert_eq!(included, Some((0, vec![Value::Integer(1)])));
+    assert_eq!(original, Some((0, vec![Value::Integer(1)])));
     // Distributing happens below atoms, too; no lookup comes of it.
     let deep = equal(or(and(Tree::Column(0), Tree::Column(1)), Tree::Null), Tree::Null);
     assert!(elements(&deep)[0].altered);
@@ -162,25 +169,25 @@ fn class_10_lookups_not_seen() {
     // The format's first clause is c IS NULL OR c IS NAN OR c IS NULL.
     let c = || is(Tree::Column(0), 0);
     let left = or(or(and(c(), Tree::Column(1)), is(Tree::Column(0), 1)), c());
-    let [plain, included] = lookups(&left);
+    let [plain, original] = lookups(&left);
     assert_eq!(plain.unwrap().1.len(), 3);
-    assert_eq!(included, None);
+    assert_eq!(original, None);
 }
 
 #[test]
 fn class_11_values_of_no_lookup() {
     let c = || Tree::Column(0);
     for tree in [c(), not(equal(c(), Tree::Integer(1)))] {
-        let made = lay(&tree);
+        let made = predicate_of(&tree);
         assert_eq!(plain::lookup(&made.text, &made.rows, 0), Err((NOT_LOOKUP, 0)));
         assert!(values_panic(&made.text, &made.rows, 0, 0));
     }
 }
 
-/// A literal on one cell: the format's value and the included source's.
+/// A literal on one cell: the format's value and the original's.
 fn truths(atom: &Tree, cell: &Value) -> (Kleene, Evaluated) {
-    let made = lay(atom);
-    let literal = 2 * (made.rows.len() as u64 / 3 - 1);
+    let made = predicate_of(atom);
+    let literal = 2 * (row_count(&made.rows) as u64 - 1);
     let plain = cells::literal(&made.text, &made.rows, literal, cell).unwrap();
     (plain, evaluate(&made.text, &made.rows, literal, std::slice::from_ref(cell)))
 }
@@ -190,7 +197,7 @@ fn class_12_integer_and_float() {
     let one = equal(Tree::Column(0), float(1.0));
     let expected = (Kleene::False, Evaluated::Truth(Kleene::True));
     assert_eq!(truths(&one, &Value::Integer(1)), expected);
-    // The included source rounds the whole number first.
+    // The original rounds the whole number first.
     let large = equal(Tree::Column(0), float(9_007_199_254_740_992.0));
     assert_eq!(truths(&large, &Value::Integer(9_007_199_254_740_993)), expected);
 }
@@ -217,10 +224,10 @@ fn class_15_is_nan_of_no_float() {
     }
 }
 
-/// The included source's only element of a tree, which must have the format's
+/// The original's only element of a tree, which must have the format's
 /// literals and yet another atom behind them: as it stands, and as it should be.
 fn rewritten(tree: &Tree) -> [String; 2] {
-    let made = lay(tree);
+    let made = predicate_of(tree);
     let expected = clauses(tree).expect("a small predicate");
     let clause = elements(tree).remove(0);
     assert_eq!(vec![clause.literals.unwrap()], expected);
@@ -233,10 +240,10 @@ fn rewritten(tree: &Tree) -> [String; 2] {
 
 #[test]
 fn class_16_rewriting_below_atoms() {
-    let plus = |tree: Tree| Tree::Unary(18, Box::new(tree));
+    let plus = |tree: Tree| unary(kind::IDENTITY, tree);
     let [a, b, c] = [0, 1, 2].map(Tree::Column);
     let smallest = plus(not(not(a.clone())));
-    assert_eq!(lay(&smallest).rows, [6, 0, 0, 9, 0, 0, 9, 1, 0, 18, 2, 0]);
+    assert_eq!(predicate_of(&smallest).rows, [6, 0, 0, 9, 0, 0, 9, 1, 0, 18, 2, 0]);
     assert_eq!(clauses(&smallest), Ok(vec![vec![6]]));
     assert_eq!(
         rewritten(&smallest),
@@ -250,8 +257,8 @@ fn class_16_rewriting_below_atoms() {
     assert_eq!(distributed[0], format!("Identity(And({each}))"));
     // So an atom that would be an error can have a value.
     let of_one = |atom: &Tree| {
-        let made = lay(atom);
-        let literal = 2 * (made.rows.len() as u64 / 3 - 1);
+        let made = predicate_of(atom);
+        let literal = 2 * (row_count(&made.rows) as u64 - 1);
         evaluate(&made.text, &made.rows, literal, &[Value::Integer(1)])
     };
     assert_eq!(of_one(&is(not(not(Tree::Column(0))), 0)), Evaluated::Refused);

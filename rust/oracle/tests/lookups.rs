@@ -1,19 +1,21 @@
-//! The plain lookups and values against the included source's.
+//! The plain lookups and values against the original's.
 
 use oracle::cases::*;
 use oracle::expression;
+use oracle::layout::{Constant, row_at};
 use oracle::plain::cells::{Kleene, NAN_BITS, Value};
+use oracle::plain::predicate::kind;
 use oracle::plain::refusal::*;
 use oracle::plain::{self, cells};
 
-/// The column and the values, each as a constant's row.
-type Found = Option<(u64, Vec<[u64; 3]>)>;
+/// The column and the values.
+type Found = Option<(u64, Vec<Constant>)>;
 
 /// Compares the lookups of every clause of a tree whose lists agree. They are
 /// the same unless something below an atom was rewritten; answers how many
 /// clauses were compared, how many are lookups and how many differ.
 fn compare(tree: &Tree) -> [usize; 3] {
-    let made = lay(tree);
+    let made = predicate_of(tree);
     let clauses = expression::split(&made.text, &made.rows);
     let mut counts = [0; 3];
     if clauses.iter().any(|c| c.literals.is_none()) {
@@ -21,15 +23,15 @@ fn compare(tree: &Tree) -> [usize; 3] {
     }
     for (n, clause) in clauses.iter().enumerate() {
         let plain = plain::lookup(&made.text, &made.rows, n);
-        let plain: Found = plain.ok().map(|l| (l.column, l.rows));
-        let included: Found = clause.lookup.as_ref().map(|l| (l.column, l.rows.clone()));
+        let plain: Found = plain.ok().map(|l| (l.column, l.constants));
+        let original: Found = clause.lookup.as_ref().map(|l| (l.column, l.constants.clone()));
         counts[0] += 1;
         counts[1] += usize::from(plain.is_some());
-        if clause.altered && plain != included {
+        if clause.altered && plain != original {
             assert!(plain.is_none(), "rewriting below atoms only makes more lookups: {tree:?}");
             counts[2] += 1;
         } else {
-            assert_eq!(plain, included, "{tree:?}");
+            assert_eq!(plain, original, "{tree:?}");
         }
     }
     counts
@@ -69,8 +71,8 @@ fn atoms() -> Vec<Tree> {
     atoms.push(equal(c(), c()));
     atoms.push(equal(Tree::Column(4), Tree::Integer(1)));
     atoms.push(is(Tree::Column(4), 0));
-    atoms.push(Tree::Binary(12, Box::new(c()), Box::new(Tree::Integer(1))));
-    atoms.push(equal(Tree::Unary(18, Box::new(c())), Tree::Integer(1)));
+    atoms.push(binary(kind::LESS_THAN, c(), Tree::Integer(1)));
+    atoms.push(equal(unary(kind::IDENTITY, c()), Tree::Integer(1)));
     atoms
 }
 
@@ -119,19 +121,19 @@ fn rewriting_below_atoms_makes_lookups() {
 
 #[test]
 fn order_of_refusals() {
-    let made = lay(&or(equal(Tree::Column(0), Tree::Integer(5)), is(Tree::Column(0), 1)));
+    let made = predicate_of(&or(equal(Tree::Column(0), Tree::Integer(5)), is(Tree::Column(0), 1)));
     let value = |clause, n| plain::value_at(&made.text, &made.rows, clause, n);
     assert_eq!(value(0, 0), Ok(Value::Integer(5)));
     assert_eq!(value(0, 1), Ok(Value::Float(NAN_BITS)));
     assert_eq!(value(0, 2), Err((NO_SUCH, 0)));
     assert_eq!(value(1, 0), Err((NO_SUCH, 0)));
-    let made = lay(&not(equal(Tree::Column(0), Tree::Integer(5))));
+    let made = predicate_of(&not(equal(Tree::Column(0), Tree::Integer(5))));
     let value = |clause, n| plain::value_at(&made.text, &made.rows, clause, n);
     assert_eq!(value(0, 9), Err((NOT_LOOKUP, 0)));
     assert_eq!(value(1, 9), Err((NO_SUCH, 0)));
     // Too many clauses are refused before a clause number is looked at.
     let chain = |n: u64| (1..n).fold(Tree::Column(0), |t, c| and(t, Tree::Column(c)));
-    let made = lay(&or(chain(33), chain(32)));
+    let made = predicate_of(&or(chain(33), chain(32)));
     assert_eq!(plain::lookup(&made.text, &made.rows, 9_999), Err((TOO_MANY, 0)));
 }
 
@@ -142,14 +144,14 @@ fn lookups_find_the_true_cells() {
     let mut dice = Dice::new(33);
     let cells: Vec<Value> = (0..200)
         .map(|_| {
-            let made = lay(&random_constant(&mut dice));
-            Value::of_row(&made.text, &[made.rows[0], made.rows[1], made.rows[2]])
+            let made = predicate_of(&random_constant(&mut dice));
+            Value::of(&made.text, row_at(&made.rows, 0).constant())
         })
         .collect();
     for n in 0..500 {
         let first = random_lookup(&mut dice);
         let tree = (0..n % 4).fold(first, |t, _| or(t, random_lookup(&mut dice)));
-        let made = lay(&tree);
+        let made = predicate_of(&tree);
         let clause = plain::split(&made.text, &made.rows).unwrap().remove(0);
         let Ok(lookup) = plain::lookup(&made.text, &made.rows, 0) else { continue };
         for cell in &cells {

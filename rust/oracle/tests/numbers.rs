@@ -1,22 +1,25 @@
-//! The number rule against what the included parser reads as a number.
+//! The number rule against what the original parser reads as a number.
 
+use oracle::layout::Row;
 use oracle::parser::{Reading, read};
+use oracle::plain::reading::syntax;
+use oracle::plain::refusal::BAD_NUMBER;
 use oracle::plain::{Number, number};
 
-/// The included parser's reading of one number token.
-fn included(bytes: &[u8]) -> Number {
+/// The original parser's reading of one number token.
+fn original(bytes: &[u8]) -> Number {
     match read(bytes, &[1, 0, bytes.len() as u32]) {
-        Reading::Rows(rows) if rows[0][0] == 2 => Number::Integer(rows[0][1]),
+        Reading::Rows(rows) if rows[0].kind == syntax::INTEGER => Number::Integer(rows[0].x),
         Reading::Rows(rows) => {
-            assert_eq!(rows, [[3, 0, 0]]);
+            assert_eq!(rows, [Row::new(syntax::FLOAT, 0, 0)]);
             Number::Float
         }
-        Reading::Refused(7, 0) => Number::Neither,
+        Reading::Refused(BAD_NUMBER, 0) => Number::Neither,
         other => panic!("{bytes:?} gave {other:?}"),
     }
 }
 
-/// The classes of spellings that only the included parser takes.
+/// The classes of spellings that only the original parser takes.
 #[derive(Clone, Copy, Debug, PartialEq, Eq)]
 enum Class {
     /// A sign stands first.
@@ -42,12 +45,12 @@ fn class(bytes: &[u8]) -> Option<Class> {
 
 /// Compares one spelling; answers the class if the two differ.
 fn compare(bytes: &[u8]) -> Option<Class> {
-    let (plain, included) = (number(bytes), included(bytes));
-    if plain == included {
+    let (plain, original) = (number(bytes), original(bytes));
+    if plain == original {
         return None;
     }
     let shown = String::from_utf8_lossy(bytes);
-    assert_eq!((plain, included), (Number::Neither, Number::Float), "{shown}");
+    assert_eq!((plain, original), (Number::Neither, Number::Float), "{shown}");
     Some(class(bytes).unwrap_or_else(|| panic!("{shown} is of no listed class")))
 }
 
@@ -73,53 +76,67 @@ fn every_short_spelling() {
     assert!(counts.iter().all(|count| *count > 0));
 }
 
+/// Spellings that both take for a Float.
+const FLOATS: [&str; 9] = [
+    "1E-05",
+    "9223372036854775808.",
+    "1e400",
+    "1e99999999999999999999",
+    "1e-99999999999999999999",
+    "1.",
+    "1.e5",
+    "1.E-5",
+    "0.0",
+];
+
+/// Spellings that both take for no number.
+const NO_NUMBERS: [&str; 22] = [
+    "9223372036854775808",
+    "18446744073709551616",
+    "99999999999999999999999999999999999999999999",
+    "1e5.",
+    "1.5.2",
+    "1e",
+    "1e+",
+    "1.5e",
+    "e5",
+    ".",
+    ".e5",
+    "",
+    " 1",
+    "1 ",
+    "1f",
+    "0x10",
+    "1_000",
+    "1,5",
+    "\u{661}",
+    "in",
+    "infinit",
+    "nan0",
+];
+
+/// Both take a spelling for the same.
+fn shared(spelling: &str, expected: Number) {
+    assert_eq!(compare(spelling.as_bytes()), None, "{spelling}");
+    assert_eq!(number(spelling.as_bytes()), expected, "{spelling}");
+}
+
 #[test]
 fn long_and_limiting_spellings_are_shared() {
     let zeros = "0".repeat(300);
-    let shared = [
-        ("9223372036854775807", Number::Integer(9_223_372_036_854_775_807)),
-        ("9223372036854775808", Number::Neither),
-        ("18446744073709551616", Number::Neither),
-        ("99999999999999999999999999999999999999999999", Number::Neither),
-        (&format!("{zeros}9223372036854775807"), Number::Integer(9_223_372_036_854_775_807)),
-        (&format!("{zeros}9223372036854775808"), Number::Neither),
-        (&zeros, Number::Integer(0)),
-        (&format!("{zeros}.{zeros}"), Number::Float),
-        (&format!("1e{zeros}1"), Number::Float),
-        (&format!("{}.5", "9".repeat(400)), Number::Float),
-        ("007", Number::Integer(7)),
-        ("1E-05", Number::Float),
-        ("9223372036854775808.", Number::Float),
-        ("1e5.", Number::Neither),
-        ("1.5.2", Number::Neither),
-        ("1e400", Number::Float),
-        ("1e99999999999999999999", Number::Float),
-        ("1e-99999999999999999999", Number::Float),
-        ("1.", Number::Float),
-        ("1.e5", Number::Float),
-        ("1.E-5", Number::Float),
-        ("1e", Number::Neither),
-        ("1e+", Number::Neither),
-        ("1.5e", Number::Neither),
-        ("e5", Number::Neither),
-        (".", Number::Neither),
-        (".e5", Number::Neither),
-        ("", Number::Neither),
-        (" 1", Number::Neither),
-        ("1 ", Number::Neither),
-        ("1f", Number::Neither),
-        ("0x10", Number::Neither),
-        ("1_000", Number::Neither),
-        ("1,5", Number::Neither),
-        ("\u{661}", Number::Neither),
-        ("in", Number::Neither),
-        ("infinit", Number::Neither),
-        ("nan0", Number::Neither),
-    ];
-    for (spelling, expected) in shared {
-        assert_eq!(compare(spelling.as_bytes()), None, "{spelling}");
-        assert_eq!(number(spelling.as_bytes()), expected, "{spelling}");
+    let after_zeros = |digits: &str| format!("{zeros}{digits}");
+    let most = i64::MAX.to_string();
+    for spelling in [most.clone(), after_zeros(&most)] {
+        shared(&spelling, Number::Integer(i64::MAX as u64));
     }
+    shared("007", Number::Integer(7));
+    shared(&zeros, Number::Integer(0));
+    FLOATS.iter().for_each(|spelling| shared(spelling, Number::Float));
+    shared(&format!("{zeros}.{zeros}"), Number::Float);
+    shared(&format!("1e{zeros}1"), Number::Float);
+    shared(&format!("{}.5", "9".repeat(400)), Number::Float);
+    NO_NUMBERS.iter().for_each(|spelling| shared(spelling, Number::Neither));
+    shared(&after_zeros("9223372036854775808"), Number::Neither);
 }
 
 #[test]

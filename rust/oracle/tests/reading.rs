@@ -1,13 +1,16 @@
-//! The plain reading against the included parser: every short token string,
+//! The plain reading against the original parser: every short token string,
 //! random long ones, and the limits that only the plain reading has.
 
 use oracle::cases::*;
+use oracle::layout::{Row, TOKEN_WIDTH, token_count};
 use oracle::parser::{Reading, read};
+use oracle::plain::reading::syntax;
 use oracle::plain::refusal::*;
-use oracle::plain::{self, levels_needed, limit, spelled, table_fault};
+use oracle::plain::tokens::kind;
+use oracle::plain::{self, Refusal, levels_needed, limit, spelled, table_fault};
 
-/// The included parser's answer in the plain reading's form.
-fn included(text: &[u8], tokens: &[u32]) -> Result<Vec<[u64; 3]>, (u64, u64)> {
+/// The original parser's answer in the plain reading's form.
+fn original(text: &[u8], tokens: &[u32]) -> Result<Vec<Row>, Refusal> {
     match read(text, tokens) {
         Reading::Rows(rows) => Ok(rows),
         Reading::Refused(number, place) => Err((number, place)),
@@ -17,7 +20,7 @@ fn included(text: &[u8], tokens: &[u32]) -> Result<Vec<[u64; 3]>, (u64, u64)> {
 
 /// Compares both on every string of `length` tokens out of a table of tokens.
 fn compare_all(made: &Tokens, length: usize) -> u64 {
-    let kinds = made.tokens.len() / 3;
+    let kinds = token_count(&made.tokens);
     let firsts: Vec<usize> = (0..kinds).collect();
     let halves = firsts.chunks(kinds.div_ceil(2));
     std::thread::scope(|scope| {
@@ -29,22 +32,22 @@ fn compare_all(made: &Tokens, length: usize) -> u64 {
 
 /// The same for the strings that begin with one of `firsts`.
 fn compare_some(made: &Tokens, firsts: &[usize], length: usize) -> u64 {
-    let kinds = made.tokens.len() / 3;
+    let kinds = token_count(&made.tokens);
     let tails = kinds.pow(length as u32 - 1);
-    let mut tokens = vec![0; 3 * length];
+    let table = made.tokens.as_chunks::<TOKEN_WIDTH>().0;
+    let mut tokens = vec![table[0]; length];
     let mut compared = 0;
     for &first in firsts {
         for tail in 0..tails {
+            tokens[0] = table[first];
             let mut rest = tail;
-            for place in 0..length {
-                let n = if place == 0 { first } else { rest % kinds };
-                if place > 0 {
-                    rest /= kinds;
-                }
-                tokens[3 * place..3 * place + 3].copy_from_slice(&made.tokens[3 * n..3 * n + 3]);
+            for token in &mut tokens[1..] {
+                *token = table[rest % kinds];
+                rest /= kinds;
             }
-            let plain = plain::parse(&made.text, &tokens, limit::ROWS, limit::LEVELS);
-            assert_eq!(plain, included(&made.text, &tokens), "{tokens:?}");
+            let tokens = tokens.as_flattened();
+            let plain = plain::parse(&made.text, tokens, limit::ROWS, limit::LEVELS);
+            assert_eq!(plain, original(&made.text, tokens), "{tokens:?}");
             compared += 1;
         }
     }
@@ -64,7 +67,7 @@ fn every_short_string_reads_alike() {
     let longest = if cfg!(debug_assertions) { 3 } else { 5 };
     let made = words(EVERY);
     let compared: u64 = (1..=longest).map(|length| compare_all(&made, length)).sum();
-    println!("{compared} strings over {} tokens", made.tokens.len() / 3);
+    println!("{compared} strings over {} tokens", token_count(&made.tokens));
 }
 
 /// About ten seconds more: `cargo test --release -p oracle -- --ignored`.
@@ -86,7 +89,7 @@ fn random_expressions_read_alike() {
         }
         let made = words(&line);
         let plain = plain::parse(&made.text, &made.tokens, limit::ROWS, limit::LEVELS);
-        assert_eq!(plain, included(&made.text, &made.tokens), "{line}");
+        assert_eq!(plain, original(&made.text, &made.tokens), "{line}");
         accepted += usize::from(plain.is_ok());
         levels_bound(&made);
     }
@@ -96,7 +99,7 @@ fn random_expressions_read_alike() {
 /// The level limit decides exactly by the levels that a reading needs.
 fn levels_bound(made: &Tokens) {
     let needed = levels_needed(&made.text, &made.tokens);
-    let free = included(&made.text, &made.tokens);
+    let free = original(&made.text, &made.tokens);
     let at = |levels| plain::parse(&made.text, &made.tokens, limit::ROWS, levels);
     assert_eq!(at(needed), free);
     assert_eq!(at(needed - 1).unwrap_err().0, TOO_DEEP);
@@ -192,19 +195,19 @@ fn a_number_that_is_not_text_is_outside() {
     assert_eq!(read(&[0xff], &tokens), Reading::Outside);
     assert_eq!(plain::parse(&[0xff], &tokens, 1, 1), Err((BAD_NUMBER, 0)));
     // Names and strings may hold any bytes: the parser only passes them on.
-    assert_eq!(read(&[0xff], &[3, 0, 1]), Reading::Rows(vec![[9, 0, 0]]));
+    assert_eq!(read(&[0xff], &[3, 0, 1]), Reading::Rows(vec![Row::new(syntax::COLUMN, 0, 0)]));
 }
 
 #[test]
 fn every_kind_is_another_token() {
     let fixed = oracle::sql::parser::lexer::fixed;
-    let tokens: Vec<_> = (4..=88).map(|kind| fixed(kind).unwrap()).collect();
+    let tokens: Vec<_> = (kind::OR..=kind::LAST).map(|kind| fixed(kind).unwrap()).collect();
     for (n, token) in tokens.iter().enumerate() {
-        assert!(!tokens[..n].contains(token), "kind {} is not its own", n + 4);
-        // A keyword's name in the included source is its spelling.
+        assert!(!tokens[..n].contains(token), "{token:?} has two kinds");
+        // A keyword's name in the original is its spelling.
         if let oracle::sql::parser::Token::Keyword(keyword) = token {
             assert_eq!(format!("{keyword:?}").to_uppercase(), SPELLED[n]);
         }
     }
-    assert!(fixed(3).is_none() && fixed(89).is_none());
+    assert!(fixed(kind::IDENT).is_none() && fixed(kind::LAST + 1).is_none());
 }

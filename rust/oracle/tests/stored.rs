@@ -1,5 +1,6 @@
 //! The stored answers are what the command writes now, and can be replayed.
 
+use oracle::layout::{CONSTANT_WIDTH, ROW_WIDTH, TOKEN_WIDTH, rows_of};
 use oracle::list::{parse_lines, split_lines};
 use oracle::plain::{self, limit};
 
@@ -37,9 +38,10 @@ impl<'a> Line<'a> {
         (0..length).map(|_| self.number()).collect()
     }
 
-    fn rows(&mut self) -> Vec<[u64; 3]> {
+    /// So many tokens, rows or constants as the next number says, each so wide.
+    fn table(&mut self, width: usize) -> Vec<u64> {
         let count = self.number();
-        self.list(3 * count).chunks(3).map(|r| [r[0], r[1], r[2]]).collect()
+        self.list(count * width as u64)
     }
 
     fn bytes(&mut self) -> Vec<u8> {
@@ -58,10 +60,10 @@ fn parse_lines_replay() {
         let mut line = Line(stored.split(' '));
         assert_eq!(line.word(), "P");
         let text = line.bytes();
-        let tokens: Vec<u32> = line.rows().into_iter().flatten().map(|n| n as u32).collect();
+        let tokens: Vec<u32> = line.table(TOKEN_WIDTH).into_iter().map(|n| n as u32).collect();
         let expected = match line.word() {
-            "A" => Ok(line.rows()),
-            "R" => Err((line.number(), line.number())),
+            "A" => Ok(rows_of(&line.table(ROW_WIDTH))),
+            "R" => Err((line.number() as u32, line.number())),
             other => panic!("{other} is no answer"),
         };
         line.end();
@@ -75,7 +77,7 @@ fn split_lines_replay() {
         let mut line = Line(stored.split(' '));
         let letter = line.word();
         let text = line.bytes();
-        let rows = line.rows().concat();
+        let rows = line.table(ROW_WIDTH);
         match letter {
             "S" => {
                 assert_eq!(line.word(), "C");
@@ -91,11 +93,11 @@ fn split_lines_replay() {
                 let clause = line.number() as usize;
                 let expected = match line.word() {
                     "N" => None,
-                    "V" => Some((line.number(), line.rows())),
+                    "V" => Some((line.number(), line.table(CONSTANT_WIDTH))),
                     other => panic!("{other} is no answer"),
                 };
                 let lookup = plain::lookup(&text, &rows, clause).ok();
-                assert_eq!(lookup.map(|l| (l.column, l.rows)), expected);
+                assert_eq!(lookup.map(|l| (l.column, l.constants.concat())), expected);
             }
             other => panic!("{other} begins no line"),
         }

@@ -1,28 +1,30 @@
 //! The worked examples of docs/FORMAT.md, against the plain reading and, where
-//! they have an answer of the same form, against the included sources.
+//! they have an answer of the same form, against the original's sources.
 
 use oracle::cases::*;
 use oracle::expression;
+use oracle::layout::{ROW_WIDTH, Row};
 use oracle::parser::{Reading, read};
 use oracle::plain::cells::Value;
 use oracle::plain::refusal::*;
-use oracle::plain::{self, limit};
+use oracle::plain::{self, Refusal, limit};
 
 /// The plain reading of words under the format's limits.
-fn plain_parse(line: &str) -> Result<Vec<[u64; 3]>, (u64, u64)> {
+fn plain_parse(line: &str) -> Result<Vec<Row>, Refusal> {
     let made = words(line);
     plain::parse(&made.text, &made.tokens, limit::ROWS, limit::LEVELS)
 }
 
 /// Both readings must give these rows.
-fn accepted(line: &str, rows: &[[u64; 3]]) {
+fn accepted(line: &str, rows: &[[u64; ROW_WIDTH]]) {
     let made = words(line);
-    assert_eq!(plain_parse(line), Ok(rows.to_vec()), "{line}");
-    assert_eq!(read(&made.text, &made.tokens), Reading::Rows(rows.to_vec()), "{line}");
+    let rows: Vec<Row> = rows.iter().copied().map(Row::from).collect();
+    assert_eq!(plain_parse(line), Ok(rows.clone()), "{line}");
+    assert_eq!(read(&made.text, &made.tokens), Reading::Rows(rows), "{line}");
 }
 
 /// Both readings must refuse so.
-fn refused(line: &str, number: u64, place: u64) {
+fn refused(line: &str, number: u32, place: u64) {
     let made = words(line);
     assert_eq!(plain_parse(line), Err((number, place)), "{line}");
     assert_eq!(read(&made.text, &made.tokens), Reading::Refused(number, place), "{line}");
@@ -95,14 +97,14 @@ fn columns() -> [Tree; 4] {
 }
 
 /// The format's clauses of a tree.
-fn clauses(tree: &Tree) -> Result<Vec<Vec<u64>>, (u64, u64)> {
-    let made = lay(tree);
+fn clauses(tree: &Tree) -> Result<Vec<Vec<u64>>, Refusal> {
+    let made = predicate_of(tree);
     plain::split(&made.text, &made.rows)
 }
 
-/// The included source's clauses, where all are lists of literals.
-fn included(tree: &Tree) -> Option<Vec<Vec<u64>>> {
-    let made = lay(tree);
+/// The original's clauses, where all are lists of literals.
+fn original(tree: &Tree) -> Option<Vec<Vec<u64>>> {
+    let made = predicate_of(tree);
     expression::split(&made.text, &made.rows).into_iter().map(|c| c.literals).collect()
 }
 
@@ -113,13 +115,13 @@ fn clause_lists() {
     let tree = or(and(a.clone(), b.clone()), and(c.clone(), d.clone()));
     let list = vec![vec![0, 6], vec![0, 8], vec![2, 6], vec![2, 8]];
     assert_eq!(clauses(&tree), Ok(list.clone()));
-    assert_eq!(included(&tree), Some(list));
+    assert_eq!(original(&tree), Some(list));
     // Rows: column 4, 7, Equal 2, column 5, column 6, AND 5, NOT 6, OR 7.
     let p = equal(Tree::Column(4), Tree::Integer(7));
     let tree = or(p, not(and(Tree::Column(5), Tree::Column(6))));
     assert_eq!(clauses(&tree), Ok(vec![vec![4, 7, 9]]));
-    assert_eq!(included(&tree), Some(vec![vec![4, 7, 9]]));
-    // The included source leaves the next two unsplit: see differences.rs.
+    assert_eq!(original(&tree), Some(vec![vec![4, 7, 9]]));
+    // The original leaves the next two unsplit: see differences.rs.
     let tree = not(not(not(and(a.clone(), b.clone()))));
     assert_eq!(clauses(&tree), Ok(vec![vec![1, 3]]));
     // Rows: a 0, b 1, AND 2, c 3, OR 4, d 5, OR 6.
@@ -141,13 +143,13 @@ fn clause_limits() {
     assert_eq!(clauses(&or_of_ands(&[2, 2, 2, 2, 2, 2, 2, 2, 4])), Err((TOO_MANY, 0)));
 }
 
-/// The format's lookup of the only clause, which the included source shares.
-fn lookup(tree: &Tree) -> Result<(u64, Vec<Value>), (u64, u64)> {
-    let made = lay(tree);
+/// The format's lookup of the only clause, which the original shares.
+fn lookup(tree: &Tree) -> Result<(u64, Vec<Value>), Refusal> {
+    let made = predicate_of(tree);
     let answer = plain::lookup(&made.text, &made.rows, 0).map(|l| (l.column, l.values));
     let clauses = expression::split(&made.text, &made.rows);
-    let included = clauses[0].lookup.clone().map(|l| (l.column, l.values));
-    assert_eq!(included, answer.clone().ok());
+    let original = clauses[0].lookup.clone().map(|l| (l.column, l.values));
+    assert_eq!(original, answer.clone().ok());
     answer
 }
 

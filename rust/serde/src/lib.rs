@@ -1,5 +1,5 @@
-//! Two derives that produce nothing. The sources that the oracle includes ask
-//! for them by name; nothing here is ever written to or read from bytes.
+//! Two derives that produce nothing. The original's sources ask for them by name;
+//! nothing here is ever written to or read from bytes.
 
 use proc_macro::TokenStream;
 

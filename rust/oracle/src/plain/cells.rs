@@ -1,6 +1,7 @@
 //! Values, Kleene truth and the cell rules.
 
-use super::predicate::kind;
+use super::predicate::{is_constant, kind};
+use crate::layout::{Constant, Row, row_at};
 
 /// The one bit pattern that a NaN is handed out as.
 pub const NAN_BITS: u64 = 9_221_120_237_041_090_560;
@@ -21,15 +22,15 @@ pub enum Value {
 }
 
 impl Value {
-    /// The value of a constant's predicate row.
-    pub fn of_row(text: &[u8], &[k, x, y]: &[u64; 3]) -> Value {
-        match k {
+    /// The value of a constant.
+    pub fn of(text: &[u8], [kind, x, y]: Constant) -> Value {
+        match kind {
             kind::NULL => Value::Null,
             kind::BOOLEAN => Value::Boolean(x == 1),
             kind::INTEGER => Value::Integer(x as i64),
             kind::FLOAT => Value::Float(x),
             kind::STRING => Value::String(text[x as usize..(x + y) as usize].to_vec()),
-            _ => panic!("kind {k} is no constant"),
+            _ => panic!("kind {kind} is no constant's"),
         }
     }
 
@@ -106,22 +107,19 @@ pub fn matches(cell: &Value, value: &Value) -> bool {
 /// The value of a literal that is Equal of a column with a constant, or Is of
 /// a column, possibly negated, with a cell in that column; none for another.
 pub fn literal(text: &[u8], rows: &[u64], literal: u64, cell: &Value) -> Option<Kleene> {
-    let row = |r: u64| {
-        let r = 3 * r as usize;
-        [rows[r], rows[r + 1], rows[r + 2]]
-    };
-    let [k, x, y] = row(literal / 2);
-    let truth = match k {
-        kind::EQUAL => match (row(x), row(y)) {
-            ([kind::COLUMN, ..], constant @ [1..=5, ..]) => {
-                equal(cell, &Value::of_row(text, &constant))
+    let row = |r: u64| row_at(rows, r as usize);
+    let atom = row(literal / 2);
+    let truth = match atom.kind {
+        kind::EQUAL => {
+            let (left, right) = (row(atom.x), row(atom.y));
+            let value = |r: Row| Value::of(text, r.constant());
+            match (left.kind, right.kind) {
+                (kind::COLUMN, constant) if is_constant(constant) => equal(cell, &value(right)),
+                (constant, kind::COLUMN) if is_constant(constant) => equal(&value(left), cell),
+                _ => return None,
             }
-            (constant @ [1..=5, ..], [kind::COLUMN, ..]) => {
-                equal(&Value::of_row(text, &constant), cell)
-            }
-            _ => return None,
-        },
-        kind::IS if row(x)[0] == kind::COLUMN => is(cell, y),
+        }
+        kind::IS if row(atom.x).kind == kind::COLUMN => is(cell, atom.y),
         _ => return None,
     };
     Some(if literal % 2 == 1 { truth.not() } else { truth })

@@ -3,6 +3,7 @@
 use super::predicate::{check, kind};
 use super::refusal::{NO_LIST, TOO_MANY};
 use super::{Refusal, limit};
+use crate::layout::Row;
 
 /// How many clauses a list has and how many literals in all, or too many.
 type Size = Option<(u64, u64)>;
@@ -17,7 +18,7 @@ pub fn split(text: &[u8], rows: &[u64]) -> Result<Vec<Vec<u64>>, Refusal> {
         Some(_) => Ok(list(&rows, root, false)),
     };
     // A predicate may nest as deep as it has rows.
-    if rows.len() > 256 { crate::deep(work) } else { work() }
+    if rows.len() > 256 { crate::on_large_stack(work) } else { work() }
 }
 
 /// The literals and the ends that a split writes into lists of the given
@@ -43,14 +44,14 @@ pub fn split_into(
 }
 
 /// The size of the list of a row, read plainly or negated.
-fn size(rows: &[[u64; 3]], r: usize, negated: bool) -> Size {
-    let [k, x, y] = rows[r];
-    let (x, y) = (x as usize, y as usize);
-    match k {
+fn size(rows: &[Row], r: usize, negated: bool) -> Size {
+    let kind = rows[r].kind;
+    let (x, y) = (rows[r].x as usize, rows[r].y as usize);
+    match kind {
         kind::NOT => size(rows, x, !negated),
         kind::AND | kind::OR => {
             let (left, right) = (size(rows, x, negated)?, size(rows, y, negated)?);
-            within(if (k == kind::AND) != negated {
+            within(if (kind == kind::AND) != negated {
                 (left.0 + right.0, left.1 + right.1)
             } else {
                 (left.0 * right.0, left.1 * right.0 + right.1 * left.0)
@@ -67,14 +68,14 @@ fn within(size: (u64, u64)) -> Size {
 }
 
 /// The list of a row, read plainly or negated.
-fn list(rows: &[[u64; 3]], r: usize, negated: bool) -> Vec<Vec<u64>> {
-    let [k, x, y] = rows[r];
-    let (x, y) = (x as usize, y as usize);
-    match k {
+fn list(rows: &[Row], r: usize, negated: bool) -> Vec<Vec<u64>> {
+    let kind = rows[r].kind;
+    let (x, y) = (rows[r].x as usize, rows[r].y as usize);
+    match kind {
         kind::NOT => list(rows, x, !negated),
         kind::AND | kind::OR => {
             let (left, right) = (list(rows, x, negated), list(rows, y, negated));
-            if (k == kind::AND) != negated { both(left, right) } else { either(&left, &right) }
+            if (kind == kind::AND) != negated { both(left, right) } else { either(&left, &right) }
         }
         _ => vec![vec![2 * r as u64 + u64::from(negated)]],
     }

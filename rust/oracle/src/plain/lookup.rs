@@ -3,8 +3,9 @@
 use super::Refusal;
 use super::cells::{NAN_BITS, Value};
 use super::clauses::split;
-use super::predicate::{check, kind};
+use super::predicate::{check, is_constant, kind};
 use super::refusal::{NO_SUCH, NOT_LOOKUP};
+use crate::layout::{Constant, Row};
 
 /// A lookup: its column and its values.
 #[derive(Clone, Debug, PartialEq, Eq)]
@@ -13,8 +14,8 @@ pub struct Lookup {
     pub column: u64,
     /// The values, in order.
     pub values: Vec<Value>,
-    /// The same values, each as the predicate row of a constant.
-    pub rows: Vec<[u64; 3]>,
+    /// The same values as constants.
+    pub constants: Vec<Constant>,
 }
 
 /// The lookup that a clause of a predicate is, or the refusal: 1, 10, 11, 14
@@ -33,45 +34,46 @@ pub fn value_at(text: &[u8], rows: &[u64], clause: usize, n: usize) -> Result<Va
 }
 
 /// The lookup that a list of literals is, if it is one.
-fn of_clause(text: &[u8], rows: &[[u64; 3]], literals: &[u64]) -> Option<Lookup> {
+fn of_clause(text: &[u8], rows: &[Row], literals: &[u64]) -> Option<Lookup> {
     let mut column = None;
-    let mut found = Vec::new();
+    let mut constants = Vec::new();
     for literal in literals {
-        let (c, value) = of_literal(rows, *literal)?;
-        if *column.get_or_insert(c) != c {
+        let (tested, constant) = of_literal(rows, *literal)?;
+        if *column.get_or_insert(tested) != tested {
             return None;
         }
-        found.extend(value);
+        constants.extend(constant);
     }
-    let values = found.iter().map(|row| Value::of_row(text, row)).collect();
-    Some(Lookup { column: column?, values, rows: found })
+    let values = constants.iter().map(|constant| Value::of(text, *constant)).collect();
+    Some(Lookup { column: column?, values, constants })
 }
 
 /// The column that a literal looks up, and the value if it gives one.
-fn of_literal(rows: &[[u64; 3]], literal: u64) -> Option<(u64, Option<[u64; 3]>)> {
-    let [k, x, y] = rows[literal as usize / 2];
+fn of_literal(rows: &[Row], literal: u64) -> Option<(u64, Option<Constant>)> {
+    let Row { kind, x, y, .. } = rows[literal as usize / 2];
     if literal % 2 == 1 {
         return None;
     }
-    match k {
+    let operand = |r: u64| rows[r as usize];
+    match kind {
         kind::EQUAL => {
-            let (left, right) = (rows[x as usize], rows[y as usize]);
-            match (left[0], right[0]) {
-                (kind::COLUMN, 1..=5) => Some((left[1], defined(right))),
-                (1..=5, kind::COLUMN) => Some((right[1], defined(left))),
+            let (left, right) = (operand(x), operand(y));
+            match (left.kind, right.kind) {
+                (kind::COLUMN, constant) if is_constant(constant) => Some((left.x, defined(right))),
+                (constant, kind::COLUMN) if is_constant(constant) => Some((right.x, defined(left))),
                 _ => None,
             }
         }
-        kind::IS if rows[x as usize][0] == kind::COLUMN => {
+        kind::IS if operand(x).kind == kind::COLUMN => {
             let value = if y == 0 { [kind::NULL, 0, 0] } else { [kind::FLOAT, NAN_BITS, 0] };
-            Some((rows[x as usize][1], Some(value)))
+            Some((operand(x).x, Some(value)))
         }
         _ => None,
     }
 }
 
-/// A constant's row, unless it is NULL or NaN.
-fn defined(row: [u64; 3]) -> Option<[u64; 3]> {
-    let nan = row[0] == kind::FLOAT && f64::from_bits(row[1]).is_nan();
-    (row[0] != kind::NULL && !nan).then_some(row)
+/// A constant, unless it is NULL or NaN.
+fn defined(row: Row) -> Option<Constant> {
+    let nan = row.kind == kind::FLOAT && f64::from_bits(row.x).is_nan();
+    (row.kind != kind::NULL && !nan).then_some(row.constant())
 }

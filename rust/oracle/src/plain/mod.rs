@@ -1,6 +1,6 @@
 //! A plain reading of docs/FORMAT.md, written for being read: recursive code
-//! over vectors, nothing shared with the included sources. It knows the limits
-//! that the included sources do not have.
+//! over vectors, nothing shared with the original's sources. It knows the limits
+//! that the original's sources do not have.
 
 pub mod cells;
 pub mod clauses;
@@ -16,25 +16,25 @@ pub use reading::{levels_needed, parse};
 pub use tokens::{Number, number, spelled, table_fault};
 
 /// A refusal: its number and its place.
-pub type Refusal = (u64, u64);
+pub type Refusal = (u32, u64);
 
 /// The refusal numbers by name.
 #[allow(missing_docs)]
 pub mod refusal {
-    pub const TOO_LONG: u64 = 1;
-    pub const BAD_TABLE: u64 = 2;
-    pub const END: u64 = 3;
-    pub const NO_ATOM: u64 = 4;
-    pub const WRONG_TOKEN: u64 = 5;
-    pub const LEFT_OVER: u64 = 6;
-    pub const BAD_NUMBER: u64 = 7;
-    pub const TOO_DEEP: u64 = 8;
-    pub const NO_ROOM: u64 = 9;
-    pub const BAD_TREE: u64 = 10;
-    pub const TOO_MANY: u64 = 11;
-    pub const NO_LIST: u64 = 12;
-    pub const NOT_LOOKUP: u64 = 13;
-    pub const NO_SUCH: u64 = 14;
+    pub const TOO_LONG: u32 = 1;
+    pub const BAD_TABLE: u32 = 2;
+    pub const END: u32 = 3;
+    pub const NO_ATOM: u32 = 4;
+    pub const WRONG_TOKEN: u32 = 5;
+    pub const LEFT_OVER: u32 = 6;
+    pub const BAD_NUMBER: u32 = 7;
+    pub const TOO_DEEP: u32 = 8;
+    pub const NO_ROOM: u32 = 9;
+    pub const BAD_TREE: u32 = 10;
+    pub const TOO_MANY: u32 = 11;
+    pub const NO_LIST: u32 = 12;
+    pub const NOT_LOOKUP: u32 = 13;
+    pub const NO_SUCH: u32 = 14;
 }
 
 /// The limits by name.

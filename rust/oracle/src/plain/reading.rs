@@ -3,6 +3,43 @@
 use super::refusal::*;
 use super::tokens::{Number, kind, number, spelled, table_fault};
 use super::{Refusal, limit};
+use crate::layout::{Row, TOKEN_WIDTH, token_count};
+
+/// The kinds of syntax rows by name.
+#[allow(missing_docs)]
+pub mod syntax {
+    pub const ALL: u64 = 1;
+    pub const INTEGER: u64 = 2;
+    pub const FLOAT: u64 = 3;
+    pub const INFINITY: u64 = 4;
+    pub const NAN: u64 = 5;
+    pub const STRING: u64 = 6;
+    pub const BOOLEAN: u64 = 7;
+    pub const NULL: u64 = 8;
+    pub const COLUMN: u64 = 9;
+    pub const QUALIFIED: u64 = 10;
+    pub const FUNCTION: u64 = 11;
+    pub const IDENTITY: u64 = 12;
+    pub const NEGATE: u64 = 13;
+    pub const NOT: u64 = 14;
+    pub const FACTORIAL: u64 = 15;
+    pub const IS: u64 = 16;
+    pub const AND: u64 = 17;
+    pub const OR: u64 = 18;
+    pub const EQUAL: u64 = 19;
+    pub const NOT_EQUAL: u64 = 20;
+    pub const GREATER_THAN: u64 = 21;
+    pub const GREATER_THAN_OR_EQUAL: u64 = 22;
+    pub const LESS_THAN: u64 = 23;
+    pub const LESS_THAN_OR_EQUAL: u64 = 24;
+    pub const LIKE: u64 = 25;
+    pub const ADD: u64 = 26;
+    pub const SUBTRACT: u64 = 27;
+    pub const MULTIPLY: u64 = 28;
+    pub const DIVIDE: u64 = 29;
+    pub const REMAINDER: u64 = 30;
+    pub const EXPONENTIATE: u64 = 31;
+}
 
 /// Reads the whole token table as one expression.
 ///
@@ -13,7 +50,7 @@ pub fn parse(
     tokens: &[u32],
     table_rows: usize,
     max_levels: usize,
-) -> Result<Vec<[u64; 3]>, Refusal> {
+) -> Result<Vec<Row>, Refusal> {
     if let Some(fault) = table_fault(text, tokens) {
         return Err(fault);
     }
@@ -31,7 +68,7 @@ pub fn levels_needed(text: &[u8], tokens: &[u32]) -> usize {
         reader.deepest
     };
     // Without a limit the reading may nest as deep as there are tokens.
-    if tokens.len() > 3 * limit::LEVELS { crate::deep(work) } else { work() }
+    if token_count(tokens) > limit::LEVELS { crate::on_large_stack(work) } else { work() }
 }
 
 /// The state of one reading.
@@ -40,7 +77,7 @@ struct Reader<'a> {
     tokens: &'a [u32],
     /// The next unread token.
     at: usize,
-    rows: Vec<[u64; 3]>,
+    rows: Vec<Row>,
     room: usize,
     max_levels: usize,
     deepest: usize,
@@ -65,7 +102,7 @@ impl<'a> Reader<'a> {
 
     /// The kind of the next token.
     fn peek(&self) -> Option<u32> {
-        self.tokens.get(3 * self.at).copied()
+        self.tokens.get(TOKEN_WIDTH * self.at).copied()
     }
 
     /// Uses the next token and answers its kind; END if there is none.
@@ -91,7 +128,7 @@ impl<'a> Reader<'a> {
         if self.next()? == kind { Ok(()) } else { self.refuse(WRONG_TOKEN, self.at - 1) }
     }
 
-    fn refuse<T>(&self, number: u64, place: usize) -> Step<T> {
+    fn refuse<T>(&self, number: u32, place: usize) -> Step<T> {
         Err((number, place as u64))
     }
 
@@ -100,7 +137,7 @@ impl<'a> Reader<'a> {
         if self.rows.len() == self.room {
             return self.refuse(NO_ROOM, self.at);
         }
-        self.rows.push([kind, x, y]);
+        self.rows.push(Row::new(kind, x, y));
         Ok(self.rows.len() as u64 - 1)
     }
 
@@ -119,9 +156,9 @@ impl<'a> Reader<'a> {
     /// A prefix operator that the minimum admits with its operand, else an atom.
     fn prefix_or_atom(&mut self, level: usize, minimum: u32) -> Step<u64> {
         let (precedence, row_kind) = match self.peek() {
-            Some(kind::NOT) => (3, 14),
-            Some(kind::PLUS) => (10, 12),
-            Some(kind::MINUS) => (10, 13),
+            Some(kind::NOT) => (3, syntax::NOT),
+            Some(kind::PLUS) => (10, syntax::IDENTITY),
+            Some(kind::MINUS) => (10, syntax::NEGATE),
             _ => return self.atom(level),
         };
         if precedence < minimum {
@@ -139,7 +176,7 @@ impl<'a> Reader<'a> {
                 Some(kind::IS) if 4 >= minimum => left = self.is(left)?,
                 Some(kind::EXCLAMATION) if 9 >= minimum => {
                     self.next()?;
-                    left = self.row(15, left, 0)?;
+                    left = self.row(syntax::FACTORIAL, left, 0)?;
                 }
                 _ => return Ok(left),
             }
@@ -155,8 +192,8 @@ impl<'a> Reader<'a> {
             kind::NAN => 1,
             _ => return self.refuse(WRONG_TOKEN, self.at - 1),
         };
-        let row = self.row(16, left, y)?;
-        if not { self.row(14, row, 0) } else { Ok(row) }
+        let row = self.row(syntax::IS, left, y)?;
+        if not { self.row(syntax::NOT, row, 0) } else { Ok(row) }
     }
 
     /// Infix operators with their right sides, while the minimum admits them.
@@ -177,23 +214,23 @@ impl<'a> Reader<'a> {
     fn atom(&mut self, level: usize) -> Step<u64> {
         let token = self.at as u64;
         match self.next()? {
-            kind::ASTERISK => self.row(1, 0, 0),
+            kind::ASTERISK => self.row(syntax::ALL, 0, 0),
             kind::NUMBER => self.number(token),
-            kind::STRING => self.row(6, token, 0),
-            kind::TRUE => self.row(7, 1, 0),
-            kind::FALSE => self.row(7, 0, 0),
-            kind::INFINITY => self.row(4, 0, 0),
-            kind::NAN => self.row(5, 0, 0),
-            kind::NULL => self.row(8, 0, 0),
-            kind::IDENT if self.next_is(kind::OPEN) => self.call(level, token),
+            kind::STRING => self.row(syntax::STRING, token, 0),
+            kind::TRUE => self.row(syntax::BOOLEAN, 1, 0),
+            kind::FALSE => self.row(syntax::BOOLEAN, 0, 0),
+            kind::INFINITY => self.row(syntax::INFINITY, 0, 0),
+            kind::NAN => self.row(syntax::NAN, 0, 0),
+            kind::NULL => self.row(syntax::NULL, 0, 0),
+            kind::IDENT if self.next_is(kind::OPEN_PAREN) => self.call(level, token),
             kind::IDENT if self.next_is(kind::PERIOD) => {
                 self.expect(kind::IDENT)?;
-                self.row(10, token, self.at as u64 - 1)
+                self.row(syntax::QUALIFIED, token, self.at as u64 - 1)
             }
-            kind::IDENT => self.row(9, token, 0),
-            kind::OPEN => {
+            kind::IDENT => self.row(syntax::COLUMN, token, 0),
+            kind::OPEN_PAREN => {
                 let inner = self.expression(level + 1, 0)?;
-                self.expect(kind::CLOSE)?;
+                self.expect(kind::CLOSE_PAREN)?;
                 Ok(inner)
             }
             _ => self.refuse(NO_ATOM, self.at - 1),
@@ -204,8 +241,8 @@ impl<'a> Reader<'a> {
     fn number(&mut self, token: u64) -> Step<u64> {
         let (start, length) = spelled(self.text, self.tokens, token as usize);
         match number(&self.text[start as usize..(start + length) as usize]) {
-            Number::Integer(value) => self.row(2, value, 0),
-            Number::Float => self.row(3, token, 0),
+            Number::Integer(value) => self.row(syntax::INTEGER, value, 0),
+            Number::Float => self.row(syntax::FLOAT, token, 0),
             Number::Neither => self.refuse(BAD_NUMBER, token as usize),
         }
     }
@@ -213,35 +250,35 @@ impl<'a> Reader<'a> {
     /// The arguments after `name(`, up to the closing parenthesis.
     fn call(&mut self, level: usize, name: u64) -> Step<u64> {
         let mut arguments = 0;
-        while !self.next_is(kind::CLOSE) {
+        while !self.next_is(kind::CLOSE_PAREN) {
             if arguments > 0 {
                 self.expect(kind::COMMA)?;
             }
             self.expression(level + 1, 0)?;
             arguments += 1;
         }
-        self.row(11, name, arguments)
+        self.row(syntax::FUNCTION, name, arguments)
     }
 }
 
 /// The precedence of an infix operator and the kind of its row.
 fn infix(token: u32) -> Option<(u32, u64)> {
     Some(match token {
-        kind::OR => (1, 18),
-        kind::AND => (2, 17),
-        kind::EQUAL => (4, 19),
-        kind::NOT_EQUAL | kind::LESS_OR_GREATER => (4, 20),
-        kind::LIKE => (4, 25),
-        kind::GREATER => (5, 21),
-        kind::GREATER_OR_EQUAL => (5, 22),
-        kind::LESS => (5, 23),
-        kind::LESS_OR_EQUAL => (5, 24),
-        kind::PLUS => (6, 26),
-        kind::MINUS => (6, 27),
-        kind::ASTERISK => (7, 28),
-        kind::SLASH => (7, 29),
-        kind::PERCENT => (7, 30),
-        kind::CARET => (8, 31),
+        kind::OR => (1, syntax::OR),
+        kind::AND => (2, syntax::AND),
+        kind::EQUAL => (4, syntax::EQUAL),
+        kind::NOT_EQUAL | kind::LESS_OR_GREATER_THAN => (4, syntax::NOT_EQUAL),
+        kind::LIKE => (4, syntax::LIKE),
+        kind::GREATER_THAN => (5, syntax::GREATER_THAN),
+        kind::GREATER_THAN_OR_EQUAL => (5, syntax::GREATER_THAN_OR_EQUAL),
+        kind::LESS_THAN => (5, syntax::LESS_THAN),
+        kind::LESS_THAN_OR_EQUAL => (5, syntax::LESS_THAN_OR_EQUAL),
+        kind::PLUS => (6, syntax::ADD),
+        kind::MINUS => (6, syntax::SUBTRACT),
+        kind::ASTERISK => (7, syntax::MULTIPLY),
+        kind::SLASH => (7, syntax::DIVIDE),
+        kind::PERCENT => (7, syntax::REMAINDER),
+        kind::CARET => (8, syntax::EXPONENTIATE),
         _ => return None,
     })
 }

@@ -2,8 +2,10 @@
 
 use super::refusal::{BAD_TABLE, TOO_LONG};
 use super::{Refusal, limit};
+use crate::layout::{TOKEN_WIDTH, token_count};
 
-/// The token kinds that expressions use, by name.
+/// The kinds of tokens by name: those with content, all signs, and the keywords
+/// that expressions use.
 #[allow(missing_docs)]
 pub mod kind {
     pub const NUMBER: u32 = 1;
@@ -13,12 +15,12 @@ pub mod kind {
     pub const AND: u32 = 5;
     pub const EQUAL: u32 = 6;
     pub const NOT_EQUAL: u32 = 7;
-    pub const LESS_OR_GREATER: u32 = 8;
+    pub const LESS_OR_GREATER_THAN: u32 = 8;
     pub const LIKE: u32 = 9;
-    pub const GREATER: u32 = 10;
-    pub const GREATER_OR_EQUAL: u32 = 11;
-    pub const LESS: u32 = 12;
-    pub const LESS_OR_EQUAL: u32 = 13;
+    pub const GREATER_THAN: u32 = 10;
+    pub const GREATER_THAN_OR_EQUAL: u32 = 11;
+    pub const LESS_THAN: u32 = 12;
+    pub const LESS_THAN_OR_EQUAL: u32 = 13;
     pub const PLUS: u32 = 14;
     pub const MINUS: u32 = 15;
     pub const ASTERISK: u32 = 16;
@@ -33,38 +35,36 @@ pub mod kind {
     pub const TRUE: u32 = 25;
     pub const FALSE: u32 = 26;
     pub const INFINITY: u32 = 27;
-    pub const OPEN: u32 = 28;
-    pub const CLOSE: u32 = 29;
+    pub const OPEN_PAREN: u32 = 28;
+    pub const CLOSE_PAREN: u32 = 29;
     pub const COMMA: u32 = 30;
     pub const PERIOD: u32 = 31;
+    pub const SEMICOLON: u32 = 32;
+    /// The last of the keywords that no expression uses.
     pub const LAST: u32 = 88;
 }
 
 /// The refusal of a text and a token table before any reading: TOO_LONG, then
 /// BAD_TABLE; none if both are good.
 pub fn table_fault(text: &[u8], tokens: &[u32]) -> Option<Refusal> {
-    let whole = tokens.len() / 3;
+    let whole = token_count(tokens);
     if text.len() > limit::TEXT || whole > limit::TOKENS {
         return Some((TOO_LONG, 0));
     }
-    if !tokens.len().is_multiple_of(3) {
+    if !tokens.len().is_multiple_of(TOKEN_WIDTH) {
         return Some((BAD_TABLE, whole as u64));
     }
-    (0..whole)
-        .find(|&n| {
-            let known = (1..=kind::LAST).contains(&tokens[3 * n]);
-            !known || span(text, tokens, n).is_none()
-        })
-        .map(|n| (BAD_TABLE, n as u64))
+    let bad = |n: &usize| {
+        let known = (1..=kind::LAST).contains(&tokens[TOKEN_WIDTH * n]);
+        !known || span(text, tokens, *n).is_none()
+    };
+    (0..whole).find(bad).map(|n| (BAD_TABLE, n as u64))
 }
 
 /// The start and length of a token whose span fits into the text.
 fn span(text: &[u8], tokens: &[u32], n: usize) -> Option<(u64, u64)> {
-    let whole = tokens.len() / 3;
-    if n >= whole {
-        return None;
-    }
-    let (start, length) = (u64::from(tokens[3 * n + 1]), u64::from(tokens[3 * n + 2]));
+    let [_, start, length] = *tokens.as_chunks::<TOKEN_WIDTH>().0.get(n)?;
+    let (start, length) = (u64::from(start), u64::from(length));
     (start + length <= text.len() as u64).then_some((start, length))
 }
 

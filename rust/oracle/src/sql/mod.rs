@@ -1,4 +1,4 @@
-//! The surroundings that the two included sources expect, under the names that
+//! The surroundings that the original's two sources expect, under the names that
 //! they use.
 
 pub mod parser;

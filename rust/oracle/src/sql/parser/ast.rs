@@ -1,4 +1,4 @@
-//! The trees that the included parser builds. Its source names the variants
+//! The trees that the original parser builds. Its source names the variants
 //! and fields; their definition is not part of it and is written here.
 
 use crate::sql::types::DataType;

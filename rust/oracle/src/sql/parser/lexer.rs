@@ -6,10 +6,12 @@
 //! strings and names lead back to their tokens.
 
 use crate::error::Result;
+use crate::layout::TOKEN_WIDTH;
+use crate::plain::tokens::kind;
 use std::cell::Cell;
 use std::fmt::{Display, Formatter};
 
-/// A token as the included parser takes it.
+/// A token as the original parser takes it.
 #[derive(Clone, Debug, PartialEq, Eq)]
 #[allow(missing_docs)]
 pub enum Token {
@@ -38,7 +40,7 @@ pub enum Token {
     Slash,
 }
 
-/// A keyword that the included parser names.
+/// A keyword that the original parser names.
 #[derive(Clone, Copy, Debug, PartialEq, Eq)]
 #[allow(missing_docs)]
 pub enum Keyword {
@@ -161,7 +163,7 @@ enum Made<'a> {
 }
 
 impl<'a> Lexer<'a> {
-    /// The constructor that the included source calls for a statement's text.
+    /// The constructor that the original calls for a statement's text.
     /// That path is not part of the format: the lexer has no tokens.
     pub fn new(_text: &'a str) -> Self {
         Lexer { text: &[], tokens: &[], progress: None, next: 0, made: Made::No }
@@ -207,7 +209,7 @@ impl Iterator for Lexer<'_> {
             Made::No => {}
         }
         let at = self.next;
-        let Some(&[kind, start, length]) = self.tokens.get(3 * at..3 * at + 3) else {
+        let Some(&[kind, start, length]) = self.tokens.as_chunks::<TOKEN_WIDTH>().0.get(at) else {
             if let Some(progress) = self.progress {
                 progress.past_end.set(true);
             }
@@ -218,9 +220,9 @@ impl Iterator for Lexer<'_> {
             progress.handed.set(self.next);
         }
         Some(Ok(match kind {
-            1 => Token::Number(self.number(start, length)),
-            2 => Token::String(at.to_string()),
-            3 => Token::Ident(at.to_string()),
+            kind::NUMBER => Token::Number(self.number(start, length)),
+            kind::STRING => Token::String(at.to_string()),
+            kind::IDENT => Token::Ident(at.to_string()),
             kind => fixed(kind).expect("the table was checked"),
         }))
     }
@@ -229,42 +231,45 @@ impl Iterator for Lexer<'_> {
 /// The token of a kind that has no content of its own: a keyword or a sign.
 pub fn fixed(kind: u32) -> Option<Token> {
     Some(match kind {
-        4 => Token::Keyword(Keyword::Or),
-        5 => Token::Keyword(Keyword::And),
-        6 => Token::Equal,
-        7 => Token::NotEqual,
-        8 => Token::LessOrGreaterThan,
-        9 => Token::Keyword(Keyword::Like),
-        10 => Token::GreaterThan,
-        11 => Token::GreaterThanOrEqual,
-        12 => Token::LessThan,
-        13 => Token::LessThanOrEqual,
-        14 => Token::Plus,
-        15 => Token::Minus,
-        16 => Token::Asterisk,
-        17 => Token::Slash,
-        18 => Token::Percent,
-        19 => Token::Caret,
-        20 => Token::Exclamation,
-        21 => Token::Keyword(Keyword::Is),
-        22 => Token::Keyword(Keyword::Not),
-        23 => Token::Keyword(Keyword::Null),
-        24 => Token::Keyword(Keyword::NaN),
-        25 => Token::Keyword(Keyword::True),
-        26 => Token::Keyword(Keyword::False),
-        27 => Token::Keyword(Keyword::Infinity),
-        28 => Token::OpenParen,
-        29 => Token::CloseParen,
-        30 => Token::Comma,
-        31 => Token::Period,
-        32 => Token::Semicolon,
-        33..=88 => Token::Keyword(WORDS[kind as usize - 33]),
-        _ => return None,
+        kind::OR => Token::Keyword(Keyword::Or),
+        kind::AND => Token::Keyword(Keyword::And),
+        kind::EQUAL => Token::Equal,
+        kind::NOT_EQUAL => Token::NotEqual,
+        kind::LESS_OR_GREATER_THAN => Token::LessOrGreaterThan,
+        kind::LIKE => Token::Keyword(Keyword::Like),
+        kind::GREATER_THAN => Token::GreaterThan,
+        kind::GREATER_THAN_OR_EQUAL => Token::GreaterThanOrEqual,
+        kind::LESS_THAN => Token::LessThan,
+        kind::LESS_THAN_OR_EQUAL => Token::LessThanOrEqual,
+        kind::PLUS => Token::Plus,
+        kind::MINUS => Token::Minus,
+        kind::ASTERISK => Token::Asterisk,
+        kind::SLASH => Token::Slash,
+        kind::PERCENT => Token::Percent,
+        kind::CARET => Token::Caret,
+        kind::EXCLAMATION => Token::Exclamation,
+        kind::IS => Token::Keyword(Keyword::Is),
+        kind::NOT => Token::Keyword(Keyword::Not),
+        kind::NULL => Token::Keyword(Keyword::Null),
+        kind::NAN => Token::Keyword(Keyword::NaN),
+        kind::TRUE => Token::Keyword(Keyword::True),
+        kind::FALSE => Token::Keyword(Keyword::False),
+        kind::INFINITY => Token::Keyword(Keyword::Infinity),
+        kind::OPEN_PAREN => Token::OpenParen,
+        kind::CLOSE_PAREN => Token::CloseParen,
+        kind::COMMA => Token::Comma,
+        kind::PERIOD => Token::Period,
+        kind::SEMICOLON => Token::Semicolon,
+        _ => {
+            let after = kind.checked_sub(kind::SEMICOLON + 1)?;
+            Token::Keyword(*STATEMENT_KEYWORDS.get(after as usize)?)
+        }
     })
 }
 
-/// The keywords that no expression uses, kinds 33 to 88.
-const WORDS: [Keyword; 56] = [
+/// The keywords that no expression uses, in the order of their kinds, which follow
+/// the one of `;`.
+const STATEMENT_KEYWORDS: [Keyword; 56] = [
     Keyword::As,
     Keyword::Asc,
     Keyword::Begin,

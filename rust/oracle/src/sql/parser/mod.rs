@@ -1,9 +1,9 @@
-//! The parser (included) and the tokens and trees it works on (written here).
+//! The parser (the original's) and the tokens and trees it works on (written here).
 
 pub mod ast;
 pub mod lexer;
 
-/// The included parser source, compiled as it stands, and beside it the one
+/// The original parser source, compiled as it stands, and beside it the one
 /// function that reaches its private parts.
 #[allow(missing_docs, clippy::all)]
 pub mod parser {
@@ -38,7 +38,7 @@ pub mod parser {
         match error {
             Error::Input(said) if said.contains("atom") => Stopped::NoAtom,
             Error::Input(_) => Stopped::WrongToken,
-            Error::Number | Error::Pattern => Stopped::BadNumber,
+            Error::Number => Stopped::BadNumber,
         }
     }
 }

@@ -1,8 +1,8 @@
-//! Expressions (included) and the values they are made of (written here).
+//! Expressions (the original's) and the values they are made of (written here).
 
 pub mod value;
 
-/// The included expression source, compiled as it stands.
+/// The original expression source, compiled as it stands.
 #[allow(missing_docs, clippy::all)]
 pub mod expression {
     include!(concat!(env!("ORACLE_SOURCES"), "/src/sql/types/expression.rs"));

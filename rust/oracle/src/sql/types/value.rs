@@ -1,7 +1,6 @@
-//! Values, as far as the included expression source asks for them. That source
+//! Values, as far as the original expression source asks for them. That source
 //! does not contain their definition, so what stands here is this crate's own.
 
-use crate::errinput;
 use crate::error::Result;
 use std::fmt::{Display, Formatter};
 
@@ -107,55 +106,36 @@ impl Value {
         }
     }
 
-    /// Adds two numbers.
-    pub fn checked_add(&self, other: &Self) -> Result<Self> {
-        self.arithmetic(other, i64::checked_add, |l, r| l + r)
+    /// Is never called.
+    pub fn checked_add(&self, _other: &Self) -> Result<Self> {
+        unreachable!("{NO_ARITHMETIC}")
     }
 
-    /// Divides two numbers.
-    pub fn checked_div(&self, other: &Self) -> Result<Self> {
-        self.arithmetic(other, i64::checked_div, |l, r| l / r)
+    /// Is never called.
+    pub fn checked_div(&self, _other: &Self) -> Result<Self> {
+        unreachable!("{NO_ARITHMETIC}")
     }
 
-    /// Multiplies two numbers.
-    pub fn checked_mul(&self, other: &Self) -> Result<Self> {
-        self.arithmetic(other, i64::checked_mul, |l, r| l * r)
+    /// Is never called.
+    pub fn checked_mul(&self, _other: &Self) -> Result<Self> {
+        unreachable!("{NO_ARITHMETIC}")
     }
 
-    /// Raises a number to a power.
-    pub fn checked_pow(&self, other: &Self) -> Result<Self> {
-        let whole = |l: i64, r: i64| u32::try_from(r).ok().and_then(|r| l.checked_pow(r));
-        self.arithmetic(other, whole, f64::powf)
+    /// Is never called.
+    pub fn checked_pow(&self, _other: &Self) -> Result<Self> {
+        unreachable!("{NO_ARITHMETIC}")
     }
 
-    /// Takes the remainder of a division.
-    pub fn checked_rem(&self, other: &Self) -> Result<Self> {
-        self.arithmetic(other, i64::checked_rem, |l, r| l % r)
+    /// Is never called.
+    pub fn checked_rem(&self, _other: &Self) -> Result<Self> {
+        unreachable!("{NO_ARITHMETIC}")
     }
 
-    /// Subtracts two numbers.
-    pub fn checked_sub(&self, other: &Self) -> Result<Self> {
-        self.arithmetic(other, i64::checked_sub, |l, r| l - r)
-    }
-
-    /// One operation on two numbers: whole if both are, NULL if either is.
-    fn arithmetic(
-        &self,
-        other: &Self,
-        whole: impl Fn(i64, i64) -> Option<i64>,
-        float: impl Fn(f64, f64) -> f64,
-    ) -> Result<Self> {
-        use Value::*;
-        Ok(match (self, other) {
-            (Integer(l), Integer(r)) => match whole(*l, *r) {
-                Some(n) => Integer(n),
-                None => return errinput!("no whole result"),
-            },
-            (Integer(l), Float(r)) => Float(float(*l as f64, *r)),
-            (Float(l), Integer(r)) => Float(float(*l, *r as f64)),
-            (Float(l), Float(r)) => Float(float(*l, *r)),
-            (Null, Integer(_) | Float(_) | Null) | (Integer(_) | Float(_), Null) => Null,
-            _ => return errinput!("no numbers"),
-        })
+    /// Is never called.
+    pub fn checked_sub(&self, _other: &Self) -> Result<Self> {
+        unreachable!("{NO_ARITHMETIC}")
     }
 }
+
+/// Why values are never reckoned with.
+const NO_ARITHMETIC: &str = "the original is never asked to evaluate arithmetic";
