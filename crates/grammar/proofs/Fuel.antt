@@ -11,7 +11,7 @@ use borrow.Author.Tests.{ne-eqb}
 use lib.Dec.{eqb}
 use Rattle.tokens.specs.Kind as kind
 use Rattle.tokens.specs.Token.{tokenCount, kindAt}
-use Rattle.tokens.proofs.Tabled.{kind-missing}
+use Rattle.tokens.proofs.TokenTable.{kind-missing}
 use Rattle.refusals.specs.declared.Refusal.the-variants.{End, NeedComma}
 use Rattle.operators.specs.Operator.{among, binds, infixOf, prefixOf, postfixOf, startOf}
 use Rattle.syntax.specs.Tree.{Tree, unary, call, Trees, none, more}

@@ -15,7 +15,7 @@ use Rattle.numbers.specs.Number.{numberOf}
 use Rattle.numbers.specs.declared.Number.{Number}
 use Rattle.numbers.specs.declared.Number.the-variants.{Integer, Float, Neither}
 use Rattle.refusals.specs.declared.Refusal.{Refusal}
-use Rattle.tokens.proofs.Tabled.{kind-in}
+use Rattle.tokens.proofs.TokenTable.{kind-in}
 use Rattle.rows.specs.Layout.{capacity}
 use Rattle.rows.specs.declared.Row.{Row}
 use Rattle.operators.specs.Operator.{among, binds, infixOf, prefixOf, postfixOf, startOf}

@@ -18,7 +18,7 @@ use Rattle.numbers.specs.declared.Number.{Number}
 use Rattle.numbers.specs.declared.Number.the-variants.{Integer, Float, Neither}
 use Rattle.refusals.specs.declared.Refusal.{Refusal}
 use Rattle.refusals.specs.declared.Refusal.the-variants.{NoRoom, NeedClose, NeedComma, NeedName, NeedNullOrNan}
-use Rattle.tokens.proofs.Tabled.{kind-in}
+use Rattle.tokens.proofs.TokenTable.{kind-in}
 use Rattle.operators.specs.Operator.{among, binds, rightOf, prefixOf, startOf}
 use Rattle.operators.specs.declared.operator.Start.{Start}
 use Rattle.operators.specs.declared.operator.Start.the-variants as start

@@ -1,2 +1,2 @@
 -- Laws of the definitions that the functions' proofs, here and in the crates above, cite.
-pub mod Tabled
+pub mod TokenTable

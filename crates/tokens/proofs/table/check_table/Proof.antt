@@ -1,7 +1,7 @@
 -- `table::check_table` meets its contract: its tests are in the order of `checkTable`.
 -- Assumes nothing.
 use mathlib.Core.Path.{sym, _∙_}
-use Rattle.tokens.proofs.Tabled.{long-text, long-table, ragged, in-turn}
+use Rattle.tokens.proofs.TokenTable.{long-text, long-table, ragged, in-turn}
 use borrow.Author.Needs.{needs}
 use Rattle.tokens.proofs.table.check_table.Statement.{statement}
 use Rattle.tokens.proofs.table.check_table.Tie as tie

@@ -6,7 +6,7 @@ use native.Mathlib.Omega.{arith}
 use borrow.Author.Needs.{needs}
 use borrow.Author.Tests.{not-true, not-false}
 use Rattle.tokens.specs.Token.{tokenCount}
-use Rattle.tokens.proofs.Tabled.{Checking, check-begins, check-on, check-off, check-ends}
+use Rattle.tokens.proofs.TokenTable.{Checking, check-begins, check-on, check-off, check-ends}
 use Rattle.tokens.proofs.table.check_tokens.Statement.{statement}
 use Rattle.tokens.proofs.table.check_tokens.Tie as tie
 

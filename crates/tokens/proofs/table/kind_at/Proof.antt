@@ -1,7 +1,7 @@
 -- `table::kind_at` meets its contract: by its test, the token is there or is none.
 -- Assumes nothing.
 use mathlib.Core.Path.{sym}
-use Rattle.tokens.proofs.Tabled.{kind-there, kind-missing}
+use Rattle.tokens.proofs.TokenTable.{kind-there, kind-missing}
 use borrow.Author.Needs.{needs}
 use Rattle.tokens.proofs.table.kind_at.Statement.{statement}
 use Rattle.tokens.proofs.table.kind_at.Tie as tie

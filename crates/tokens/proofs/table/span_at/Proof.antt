@@ -2,7 +2,7 @@
 -- Assumes nothing.
 use borrow.Author.Needs.{needs}
 use mathlib.Core.Path.{sym, _∙_}
-use Rattle.tokens.proofs.Tabled.{span-there, span-none}
+use Rattle.tokens.proofs.TokenTable.{span-there, span-none}
 use Rattle.tokens.proofs.table.span_at.Statement.{statement}
 use Rattle.tokens.proofs.table.span_at.Tie as tie
 

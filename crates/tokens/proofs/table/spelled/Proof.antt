@@ -4,7 +4,7 @@ use Prim.Native.Nat.{_+_}
 use native.Mathlib.Omega.{arith}
 use Rattle.tokens.specs.declared.table.Span.{Span}
 use mathlib.Core.Path.{refl, ap}
-use Rattle.tokens.proofs.Tabled.{part-there, part-in}
+use Rattle.tokens.proofs.TokenTable.{part-there, part-in}
 use borrow.Author.Needs.{needs}
 use Rattle.tokens.proofs.table.spelled.Statement.{statement}
 use Rattle.tokens.proofs.table.spelled.Tie as tie

@@ -1,7 +1,7 @@
 -- `table::token_at` meets its contract: by its test, the token is there or is none.
 -- Assumes nothing.
 use mathlib.Core.Path.{sym}
-use Rattle.tokens.proofs.Tabled.{there, missing}
+use Rattle.tokens.proofs.TokenTable.{there, missing}
 use borrow.Author.Needs.{needs}
 use Rattle.tokens.proofs.table.token_at.Statement.{statement}
 use Rattle.tokens.proofs.table.token_at.Tie as tie
