@@ -1,4 +1,5 @@
--- The reading rules (FORMAT §4): tokens to a tree, or to a refusal and its place.
+-- The reading rules (FORMAT §4): tokens to a tree, or to a refusal and its place. A node is made with `label kind x y`, the numbers of its row that are its
+-- own; those that name its operands or count them stand as 0.
 use Prim.Native.Nat.{ℕ, zero, suc, _+_}
 use mathlib.Core.List.{List}
 use mathlib.Core.Bool.{Bool, true, false}
@@ -10,6 +11,7 @@ use Rattle.numbers.specs.declared.Number.{Number}
 use Rattle.numbers.specs.declared.Number.the-variants.{Integer, Float, Neither}
 use Rattle.refusals.specs.declared.Refusal.{Refusal}
 use Rattle.refusals.specs.declared.Refusal.the-variants.{End, NoAtom, LeftOver, BadNumber, TooDeep, NoRoom, NeedClose, NeedComma, NeedName, NeedNullOrNan}
+use Rattle.rows.specs.Label.{label}
 use Rattle.syntax.specs.Kind as row
 use Rattle.operators.specs.Operator.{infixOf, rightOf, prefixOf, postfixOf, binds, startOf}
 use Rattle.operators.specs.declared.operator.Start.{Start}
@@ -60,21 +62,21 @@ module _ (text ts : List ℕ) (cap : ℕ) where
   unfoldable pub nullOrNan : ℕ → ℕ → Tree → Reading
   nullOrNan at used x =
       elim (eqb (kindAt ts at) kind.NULL) [
-        | true ↦ due (at + 1) used (unary row.is 0 x)
-        | false ↦ need kind.NAN NeedNullOrNan at λ at. due at used (unary row.is 1 x)
+        | true ↦ due (at + 1) used (unary (label row.is 0 0) x)
+        | false ↦ need kind.NAN NeedNullOrNan at λ at. due at used (unary (label row.is 0 1) x)
       ]
 
   -- a postfix operator after x: `!`, or IS and perhaps NOT
   unfoldable pub postfix : ℕ → ℕ → Tree → Reading
   postfix at used x =
       elim (eqb (kindAt ts at) kind.exclamation) [
-        | true ↦ due (at + 1) used (unary row.factorial 0 x)
+        | true ↦ due (at + 1) used (unary (label row.factorial 0 0) x)
         | false ↦
             elim (eqb (kindAt ts (at + 1)) kind.NOT) [
               | false ↦ nullOrNan (at + 1) used x
               | true ↦ do
                 (at, used, x) ← nullOrNan (at + 2) used x
-                due at used (unary row.negation 0 x)
+                due at used (unary (label row.negation 0 0) x)
             ]
       ]
 
@@ -84,16 +86,16 @@ module _ (text ts : List ℕ) (cap : ℕ) where
 
   -- a number, by what its bytes are
   unfoldable pub numeral : Number → ℕ → ℕ → Reading
-  numeral (Integer n) at used = due (at + 1) used (leaf row.integer n 0)
-  numeral Float at used = due (at + 1) used (leaf row.float at 0)
+  numeral (Integer n) at used = due (at + 1) used (leaf (label row.integer n 0))
+  numeral Float at used = due (at + 1) used (leaf (label row.float at 0))
   numeral Neither at used = refuse BadNumber at
 
   -- name.name or name
   unfoldable pub column : ℕ → ℕ → Reading
   column at used =
       elim (eqb (kindAt ts (at + 1)) kind.period) [
-        | true ↦ need kind.ident NeedName (at + 2) λ next. due next used (leaf row.qualified at (at + 2))
-        | false ↦ due (at + 1) used (leaf row.column at 0)
+        | true ↦ need kind.ident NeedName (at + 2) λ next. due next used (leaf (label row.qualified at (at + 2)))
+        | false ↦ due (at + 1) used (leaf (label row.column at 0))
       ]
 
   -- the rules of one level: `rec` reads an expression one level down
@@ -114,7 +116,7 @@ module _ (text ts : List ℕ) (cap : ℕ) where
     arguments f zero at used xs = refuse End at
     arguments f (suc turns) at used xs =
         elim (eqb (kindAt ts at) kind.closeParen) [
-          | true ↦ due (at + 1) used (call f xs)
+          | true ↦ due (at + 1) used (call (label row.function f 0) xs)
           | false ↦ do
             (at, used, x) ← argument xs at used
             arguments f turns at used (more xs x)
@@ -132,10 +134,10 @@ module _ (text ts : List ℕ) (cap : ℕ) where
     unfoldable pub atom : Start → ℕ → ℕ → Reading
     atom start.Nothing at used = refuse End at
     atom start.Number at used = numeral (numberOf (spelled text ts at)) at used
-    atom start.Text at used = due (at + 1) used (leaf row.string at 0)
+    atom start.Text at used = due (at + 1) used (leaf (label row.string at 0))
     atom start.Name at used = named at used
     atom start.Paren at used = group at used
-    atom (start.Plain kind x) at used = due (at + 1) used (leaf kind x 0)
+    atom (start.Plain kind x) at used = due (at + 1) used (leaf (label kind x 0))
     atom start.Other at used = refuse NoAtom at
 
     -- a prefix operator that binds at m, and its operand; or else an atom
@@ -146,7 +148,7 @@ module _ (text ts : List ℕ) (cap : ℕ) where
           | false ↦ atom (startOf (kindAt ts at)) at used
           | true ↦ do
             (at, used, x) ← rec (op .precedence) (at + 1) used
-            due at used (unary (op .row) 0 x)
+            due at used (unary (label (op .row) 0 0) x)
         ]
 
     -- an infix operator after its left side x, with its right side
@@ -154,7 +156,7 @@ module _ (text ts : List ℕ) (cap : ℕ) where
     infixed at used x = do
       let k = kindAt ts at
       (at, used, y) ← rec (rightOf k) (at + 1) used
-      due at used (binary (infixOf k .row) x y)
+      due at used (binary (label (infixOf k .row) 0 0) x y)
 
     -- infix operators of at least m with their right sides, while there are any
     unfoldable pub infixes : ℕ → ℕ → ℕ → Tree → Reading
@@ -177,12 +179,12 @@ module _ (text ts : List ℕ) (cap : ℕ) where
   unfoldable pub finish : ℕ → ℕ → Tree → Reading
   finish at used x = elim (ltb at (tokenCount ts)) [ true ↦ refuse LeftOver at | false ↦ done at used x ]
 
-  -- the whole is read at 0
-  unfoldable pub whole : ℕ → Reading
-  whole levels = do
+  -- all tokens are one expression, read at 0
+  unfoldable pub wholeExpression : ℕ → Reading
+  wholeExpression levels = do
     (at, used, x) ← expression levels 0 0 0
     finish at used x
 
--- the whole without a room limit: a table of as many rows as there are tokens is always large enough. No entry's promise names it
-unfoldable pub free : List ℕ → List ℕ → ℕ → Reading
-free text ts levels = whole text ts (tokenCount ts) levels
+-- the same without a room limit: a table of as many rows as there are tokens is always large enough. No entry's promise names it
+unfoldable pub unlimited : List ℕ → List ℕ → ℕ → Reading
+unlimited text ts levels = wholeExpression text ts (tokenCount ts) levels

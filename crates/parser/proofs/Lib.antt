@@ -1,3 +1,3 @@
 -- What the inner functions give is what `parse` promises; and what an accepted parse writes is one whole tree.
-pub mod Promised
-pub mod OneTree
+pub mod PromiseKept
+pub mod RowsAreOneTree

@@ -1,25 +1,28 @@
--- What `parse` answers, and the row table as it leaves it: both are determined (FORMAT §4, §5 and §11).
+-- What `parse` answers, the numbers that the answer is for a C caller, and the row table as it leaves it: all are determined (FORMAT §4, §5 and §11).
 use mathlib.Core.Path.{_≡_}
 use Prim.Native.Nat.{ℕ, _*_}
 use mathlib.Core.List.{List, _++_}
 use lib.ListN.{length, drop, replicate}
+use Rattle.refusals.specs.Refusal.{refusalNumber}
 use Rattle.tokens.specs.Token.{checkTable}
 use Rattle.tokens.specs.declared.table.Checked.{Checked}
 use Rattle.tokens.specs.declared.table.Checked.the-variants as table
 use Rattle.rows.specs.Layout.{width, capacity}
 use Rattle.syntax.specs.Tree.{size, rowsOf}
-use Rattle.grammar.specs.Rules.{Reading, done, refuse, whole}
+use Rattle.grammar.specs.Rules.{Reading, done, refuse, wholeExpression}
 use Rattle.parser.specs.declared.Parsed.{Parsed}
 use Rattle.parser.specs.declared.Parsed.the-variants.{Rows, Refused}
 
--- a reading, where the token table is good
-abbrev pub after : Checked → Reading → Reading
-after (table.Good n) o = o
-after (table.Refused why at) o = refuse why at
+-- a reading, where the token table is good; else what its check refuses
+abbrev pub afterCheck : Checked → Reading → Reading
+afterCheck (table.Good n) o = o
+afterCheck (table.Refused why at) o = refuse why at
 
--- the token table's check, then the whole of the tokens, with so many rows and levels
+-- the token table's check, then all tokens as one expression, with so many rows and levels
 unfoldable pub parsing : List ℕ → List ℕ → ℕ → ℕ → Reading
-parsing text ts cap levels = after (checkTable text ts) (whole text ts cap levels)
+parsing text ts cap levels = afterCheck (checkTable text ts) (wholeExpression text ts cap levels)
+
+-- ---- what a reading comes to
 
 -- the number of rows, or the refusal
 abbrev pub answerOf : Reading → Parsed
@@ -31,11 +34,37 @@ abbrev pub tableOf : List ℕ → Reading → List ℕ
 tableOf t (done at used x) = rowsOf 0 x ++ drop (size x * width) t
 tableOf t (refuse why at) = replicate (length t) 0
 
--- over the table t, the answer r and the table u are what the reading o says
-pub record Says (o : Reading) (t : List ℕ) (r : Parsed) (u : List ℕ) : Type 0 where
+-- what a C function returns of it: 0, or the refusal's number
+abbrev pub returnedOf : Reading → ℕ
+returnedOf (done at used x) = 0
+returnedOf (refuse why at) = refusalNumber why
+
+-- and what it hands out: the tree's size, or the refusal's place
+abbrev pub handedOutOf : Reading → ℕ
+handedOutOf (done at used x) = size x
+handedOutOf (refuse why at) = at
+
+-- ---- the numbers of an answer (FORMAT §11.8)
+
+-- what is returned: 0, or the refusal's number
+unfoldable pub parseNumber : Parsed → ℕ
+parseNumber (Rows n) = 0
+parseNumber (Refused why at) = refusalNumber why
+
+-- what is handed out: how many rows were written, or the refusal's place
+unfoldable pub parseOut : Parsed → ℕ
+parseOut (Rows n) = n
+parseOut (Refused why at) = at
+
+-- ---- the promise
+
+-- over the table t, the answer r, its numbers and the table u are what the reading o says
+pub record Answers (o : Reading) (t : List ℕ) (r : Parsed) (u : List ℕ) : Type 0 where
   pub answer : r ≡ answerOf o
   pub table : u ≡ tableOf t o
+  pub returned : parseNumber r ≡ returnedOf o
+  pub handedOut : parseOut r ≡ handedOutOf o
 
 -- parsing with so many levels into the table t answers r and leaves the table u
 abbrev pub Parses : ℕ → List ℕ → List ℕ → List ℕ → Parsed → List ℕ → Type 0
-Parses levels text ts t r u = Says (parsing text ts (capacity t) levels) t r u
+Parses levels text ts t r u = Answers (parsing text ts (capacity t) levels) t r u

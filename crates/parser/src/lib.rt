@@ -1,4 +1,4 @@
-// Whole expressions: a table of tokens is checked, read by the reader as one expression, and what is refused leaves a table of zeros.
+// Whole expressions: a table of tokens is checked and read by the reader as one expression, and what is refused leaves a table of zeros.
 // docs/FORMAT.md has the rules; specs/Promise has what `parse` promises, over the trees of grammar/specs/Rules.
 use grammar::Cursor;
 use grammar::Step;
@@ -6,10 +6,9 @@ use limits::LEVELS_MAX;
 use refusals::Refusal;
 use tokens::table;
 use tokens::table::Checked;
-ghost use Rattle.tokens.specs.Token.{checkTable};
 ghost use Rattle.limits.specs.Limits.{levelMax};
-ghost use Rattle.grammar.specs.Memory.{Gives, whole as wholeOf};
-ghost use Rattle.parser.specs.Inner.{checked as checkedOf, Emptied};
+ghost use Rattle.grammar.specs.Memory.{Gives, whole as wholeExpression};
+ghost use Rattle.parser.specs.Inner.{parsingOut, RefusedAndCleared};
 ghost use Rattle.parser.specs.Promise.{Parses};
 
 // What a parse answers: how many rows it wrote, or a refusal and its place.
@@ -18,9 +17,9 @@ pub enum Parsed {
     Refused(Refusal, usize),
 }
 
-// The whole of the tokens as one expression.
-fn whole(text: &[u8], tokens: &[u32], rows: &mut [u64], levels: usize) -> Step
-    ensures { λ r. ⌜ Gives (wholeOf (now (text .entry)) (now (tokens .entry)) levels (now (rows .entry))) r (now (rows .exit)) ⌝ }
+// Reads all tokens as one expression.
+fn whole_expression(text: &[u8], tokens: &[u32], rows: &mut [u64], levels: usize) -> Step
+    ensures { λ r. ⌜ Gives (wholeExpression (now (text .entry)) (now (tokens .entry)) levels (now (rows .entry))) r (now (rows .exit)) ⌝ }
 {
     let start = Cursor { at: 0, rows: 0 };
     let s = reader::expression(text, tokens, rows, start, levels, 0);
@@ -34,19 +33,19 @@ fn whole(text: &[u8], tokens: &[u32], rows: &mut [u64], levels: usize) -> Step
     Step::Read(c)
 }
 
-// The same, where the table of tokens is good.
-fn checked(text: &[u8], tokens: &[u32], rows: &mut [u64], levels: usize) -> Step
-    ensures { λ r. ⌜ Gives (checkedOf (checkTable (now (text .entry)) (now (tokens .entry))) (wholeOf (now (text .entry)) (now (tokens .entry)) levels (now (rows .entry)))) r (now (rows .exit)) ⌝ }
+// Reads them so where their table is good.
+fn checked_expression(text: &[u8], tokens: &[u32], rows: &mut [u64], levels: usize) -> Step
+    ensures { λ r. ⌜ Gives (parsingOut (now (text .entry)) (now (tokens .entry)) levels (now (rows .entry))) r (now (rows .exit)) ⌝ }
 {
     match table::check_table(text, tokens) {
-        Checked::Good(_) => whole(text, tokens, rows, levels),
+        Checked::Good(_) => whole_expression(text, tokens, rows, levels),
         Checked::Refused(why, at) => Step::Refused(why, at),
     }
 }
 
-// A parse that is refused leaves every number of the table 0.
-fn refused(rows: &mut [u64], why: Refusal, at: usize) -> Parsed
-    ensures { λ r. ⌜ Emptied why at (now (rows .entry)) r (now (rows .exit)) ⌝ }
+// Answers a refusal, and leaves every number of the table 0.
+fn refuse_and_clear(rows: &mut [u64], why: Refusal, at: usize) -> Parsed
+    ensures { λ r. ⌜ RefusedAndCleared why at (now (rows .entry)) r (now (rows .exit)) ⌝ }
 {
     rows::clear(rows);
     Parsed::Refused(why, at)
@@ -56,13 +55,13 @@ fn refused(rows: &mut [u64], why: Refusal, at: usize) -> Parsed
 pub fn parse_within(text: &[u8], tokens: &[u32], rows: &mut [u64], levels: usize) -> Parsed
     ensures { λ r. ⌜ Parses levels (now (text .entry)) (now (tokens .entry)) (now (rows .entry)) r (now (rows .exit)) ⌝ }
 {
-    match checked(text, tokens, rows, levels) {
+    match checked_expression(text, tokens, rows, levels) {
         Step::Read(c) => Parsed::Rows(c.rows),
-        Step::Refused(why, at) => refused(rows, why, at),
+        Step::Refused(why, at) => refuse_and_clear(rows, why, at),
     }
 }
 
-// The same, with the levels that every expression may have.
+// Reads them with the levels that every expression may have.
 pub fn parse(text: &[u8], tokens: &[u32], rows: &mut [u64]) -> Parsed
     ensures { λ r. ⌜ Parses levelMax (now (text .entry)) (now (tokens .entry)) (now (rows .entry)) r (now (rows .exit)) ⌝ }
 {

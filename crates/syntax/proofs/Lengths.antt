@@ -12,13 +12,13 @@ mutual
   unfolding rowsOf size
 
   pub length-rows : (n : ℕ) (x : Tree) → length (rowsOf n x) ≡ size x * width
-  length-rows n (leaf kind x y) = refl
-  length-rows n (unary kind y a) = length-append (rowsOf n a) _ ∙ (let e = length-rows n a in omega arith)
-  length-rows n (binary kind a b) =
+  length-rows n (leaf l) = refl
+  length-rows n (unary l a) = length-append (rowsOf n a) _ ∙ (let e = length-rows n a in omega arith)
+  length-rows n (binary l a b) =
       length-append (rowsOf n a ++ rowsOf (n + size a) b) _
       ∙ ap (λ (k : ℕ). k + width) (length-append (rowsOf n a) _)
       ∙ (let e = length-rows n a in let f = length-rows (n + size a) b in omega arith)
-  length-rows n (call name xs) = length-append (rowsAll n xs) _ ∙ (let e = length-all n xs in omega arith)
+  length-rows n (call l xs) = length-append (rowsAll n xs) _ ∙ (let e = length-all n xs in omega arith)
 
   pub length-all : (n : ℕ) (xs : Trees) → length (rowsAll n xs) ≡ sizes xs * width
   length-all n none = refl

@@ -6,6 +6,7 @@ use mathlib.Core.Bool.{true, false}
 use mathlib.Core.List.{List, [], _∷_}
 use lib.ListN.{replicate}
 use lib.Dec.{eqb, ltb, leb}
+use Rattle.rows.specs.Label.{leafLabel, labelOverOne, labelOverTwo, labelOverMany}
 use Rattle.rows.specs.Layout.{rowAt}
 use Rattle.rows.specs.PostOrder.{Subtree, Operand, at, any, directlyBefore, Next, bad, on, push}
 use Rattle.rows.specs.declared.Row.{Row}
@@ -14,13 +15,13 @@ use Rattle.syntax.specs.Tree.{Tree, leaf, unary, binary, call, Trees, no
 
 -- how many operands a kind has: a leaf none, a function as many as y says. Kinds are not judged here: 0 counts as a leaf, 32 and above as over two
 pub data Arity : Type 0 where
-  nullary one two named : Arity
+  nullary one two counted : Arity
 
 unfoldable pub arityOf : ℕ → Arity
 arityOf k =
     elim (ltb k row.function) [
       | true ↦ nullary
-      | false ↦ elim (eqb k row.function) [ true ↦ named | false ↦ elim (leb k row.is) [ true ↦ one | false ↦ two ] ]
+      | false ↦ elim (eqb k row.function) [ true ↦ counted | false ↦ elim (leb k row.is) [ true ↦ one | false ↦ two ] ]
     ]
 
 -- the operands that a row names
@@ -28,7 +29,7 @@ unfoldable pub operandsBy : Arity → Row → List Operand
 operandsBy nullary r = []
 operandsBy one r = at (r .x) ∷ []
 operandsBy two r = at (r .x) ∷ at (r .y) ∷ []
-operandsBy named r = replicate (r .y) any
+operandsBy counted r = replicate (r .y) any
 
 -- arguments, after those so far
 unfoldable pub gather : Trees → List Tree → Trees
@@ -37,20 +38,20 @@ gather xs (x ∷ l) = gather (more xs x) l
 
 -- a row over its operands' trees: over too few, which no row gets, it is a leaf
 unfoldable pub overOne : Row → List Tree → Tree
-overOne r [] = leaf (r .kind) (r .x) (r .y)
-overOne r (a ∷ l) = unary (r .kind) (r .y) a
+overOne r [] = leaf (leafLabel r)
+overOne r (a ∷ l) = unary (labelOverOne r) a
 
 unfoldable pub overTwo : Row → List Tree → Tree
-overTwo r [] = leaf (r .kind) (r .x) (r .y)
-overTwo r (a ∷ []) = leaf (r .kind) (r .x) (r .y)
-overTwo r (a ∷ b ∷ l) = binary (r .kind) a b
+overTwo r [] = leaf (leafLabel r)
+overTwo r (a ∷ []) = leaf (leafLabel r)
+overTwo r (a ∷ b ∷ l) = binary (labelOverTwo r) a b
 
 -- what a row makes of its operands' trees
 unfoldable pub nodeBy : Arity → Row → List Tree → Tree
-nodeBy nullary r l = leaf (r .kind) (r .x) (r .y)
+nodeBy nullary r l = leaf (leafLabel r)
 nodeBy one r l = overOne r l
 nodeBy two r l = overTwo r l
-nodeBy named r l = call (r .x) (gather none l)
+nodeBy counted r l = call (labelOverMany r) (gather none l)
 
 -- row r is read: it stands on its operands
 unfoldable pub stepAt : List ℕ → ℕ → List (Subtree Tree) → Next Tree

@@ -1,16 +1,16 @@
--- Syntax trees, and the rows that a tree is (FORMAT §5).
+-- Syntax trees, and the rows that a tree is (FORMAT §5). Each node has a label: its row's own numbers, operands apart.
 use Prim.Native.Nat.{ℕ, _+_, _-_}
 use mathlib.Core.List.{List, [], _++_}
+use Rattle.rows.specs.Label.{Label, leafRow, rowOverOne, rowOverTwo, rowOverMany}
 use Rattle.rows.specs.Layout.{numbers}
 use Rattle.rows.specs.declared.Row.{Row}
-use Rattle.syntax.specs.Kind as row
 
 mutual
   pub data Tree : Type 0 where
-    leaf : ℕ → ℕ → ℕ → Tree  -- kind, x, y
-    unary : ℕ → ℕ → Tree → Tree  -- kind, y, the operand
-    binary : ℕ → Tree → Tree → Tree  -- kind, left, right
-    call : ℕ → Trees → Tree  -- the name's token, the arguments
+    leaf : Label → Tree
+    unary : Label → Tree → Tree
+    binary : Label → Tree → Tree → Tree
+    call : Label → Trees → Tree
 
   -- a function's arguments: none, or those so far and one more
   pub data Trees : Type 0 where
@@ -20,10 +20,10 @@ mutual
 -- how many rows a tree has: one for each node
 unfoldable mutual
   pub size : Tree → ℕ
-  size (leaf kind x y) = 1
-  size (unary kind y a) = size a + 1
-  size (binary kind a b) = size a + size b + 1
-  size (call name xs) = sizes xs + 1
+  size (leaf l) = 1
+  size (unary l a) = size a + 1
+  size (binary l a b) = size a + size b + 1
+  size (call l xs) = sizes xs + 1
 
   pub sizes : Trees → ℕ
   sizes none = 0
@@ -45,10 +45,10 @@ root n a = n + size a - 1
 -- a tree's rows in post-order, the first being row n: the operands in turn, then the node
 unfoldable mutual
   pub rowsOf : ℕ → Tree → List ℕ
-  rowsOf n (leaf kind x y) = numbers (rowOf kind x y)
-  rowsOf n (unary kind y a) = rowsOf n a ++ numbers (rowOf kind (root n a) y)
-  rowsOf n (binary kind a b) = rowsOf n a ++ rowsOf (n + size a) b ++ numbers (rowOf kind (root n a) (root (n + size a) b))
-  rowsOf n (call name xs) = rowsAll n xs ++ numbers (rowOf row.function name (many xs))
+  rowsOf n (leaf l) = numbers (leafRow l)
+  rowsOf n (unary l a) = rowsOf n a ++ numbers (rowOverOne l (root n a))
+  rowsOf n (binary l a b) = rowsOf n a ++ rowsOf (n + size a) b ++ numbers (rowOverTwo l (root n a) (root (n + size a) b))
+  rowsOf n (call l xs) = rowsAll n xs ++ numbers (rowOverMany l (many xs))
 
   pub rowsAll : ℕ → Trees → List ℕ
   rowsAll n none = []

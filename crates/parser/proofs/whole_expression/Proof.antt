@@ -1,11 +1,11 @@
--- `whole` meets its contract: the expression, and then whether tokens are left.
+-- `whole_expression` meets its contract: the expression, and then whether tokens are left.
 -- Assumes nothing.
 use mathlib.Core.Path.{refl, _∙_}
 use Rattle.grammar.specs.Memory.{whole}
 use Rattle.grammar.proofs.Steps.{on, refused, ends, stays, finish-over, finish-done}
 use borrow.Author.Needs.{needs}
-use Rattle.parser.proofs.whole.Statement.{statement}
-use Rattle.parser.proofs.whole.Tie as tie
+use Rattle.parser.proofs.whole_expression.Statement.{statement}
+use Rattle.parser.proofs.whole_expression.Tie as tie
 
 expression-requires : tie.Need-expression-requires
 expression-requires c κs = search needs
@@ -21,7 +21,9 @@ same-length c = search needs
 
 returns : tie.Need-returns
 unfolding whole
-returns c = refused _ (c .enum-told .given .1) (c .before .before .before .before .expression .ensures) refl
+returns c =
+    let expression = c .before .before .before .before .expression in
+    refused _ (c .enum-told .given .1) (expression .ensures) refl
 
 count-requires : tie.Need-count-requires
 count-requires c κs = search needs
@@ -31,17 +33,23 @@ same-length-2 c = search needs
 
 returns-2 : tie.Need-returns-2
 unfolding whole
-returns-2 c = ends (on _ (c .before .before .before .s .given .1) (c .before .before .before .before .before .before .before .expression .ensures) ∙ finish-over _ _ _ (rw (c .before .count .ensures) at (c .if1 .taken)))
+returns-2 c =
+    let expression = c .before .before .before .before .before .before .before .expression in
+    let s = c .before .before .before .s in
+    ends (on _ (s .given .1) (expression .ensures) ∙ finish-over _ _ _ (rw (c .before .count .ensures) at (c .if1 .taken)))
 
 same-length-3 : tie.Need-same-length-3
 same-length-3 c = search needs
 
 returns-3 : tie.Need-returns-3
 unfolding whole
-returns-3 c = stays (on _ (c .before .before .before .s .given .1) (c .before .before .before .before .before .before .before .expression .ensures) ∙ finish-done _ _ _ (rw (c .before .count .ensures) at (c .if1 .left)))
+returns-3 c =
+    let expression = c .before .before .before .before .before .before .before .expression in
+    let s = c .before .before .before .s in
+    stays (on _ (s .given .1) (expression .ensures) ∙ finish-done _ _ _ (rw (c .before .count .ensures) at (c .if1 .left)))
 
-pub whole-spec : {M : Type 1} → statement M
-whole-spec =
+pub whole-expression-spec : {M : Type 1} → statement M
+whole-expression-spec =
     tie.close
     (tie.spec
     expression-requires

@@ -1,4 +1,4 @@
--- The turns that each loop is given are always enough, so that each may be read with no count of turns:
+-- The turns that each loop of the rules is given are always enough, so that each may be read with no count of turns:
 --   postfixes-loop, infixes-loop, arguments-loop: a turn of the loop, and then the same loop again;
 --   postfixes-end, infixes-end: it ends only where there is no operator left to take.
 -- Assumes nothing.
@@ -14,27 +14,37 @@ use Rattle.tokens.specs.Token.{tokenCount, kindAt}
 use Rattle.tokens.proofs.TokenTable.{kind-missing}
 use Rattle.refusals.specs.declared.Refusal.the-variants.{End, NeedComma}
 use Rattle.operators.specs.Operator.{among, binds, infixOf, prefixOf, postfixOf, startOf}
+use Rattle.rows.specs.Label.{label}
+use Rattle.syntax.specs.Kind as row
 use Rattle.syntax.specs.Tree.{Tree, unary, call, Trees, none, more}
-use Rattle.grammar.specs.Rules.{Reading, done, refuse, _>>=_, Reader, while, due, need, postfix, postfixes, argument, arguments, atom, operand, infixed, infixes, level, expression}
+use Rattle.grammar.specs.Rules.{Reading, done, refuse, _>>=_, Reader, while, due, need}
+use Rattle.grammar.specs.Rules.{postfix, postfixes, argument, arguments, atom, operand, infixed, infixes, level, expression}
 use Rattle.grammar.proofs.Going.{infix-in, postfix-in}
-use Rattle.grammar.proofs.Onward.{by-cases, Holds, gone, after, either, Onward, missing-holds, postfix-onward, argument-onward, infixed-onward, expression-onward}
+use Rattle.grammar.proofs.Readings.{by-cases, Holds, Any, told-of, after, either, missing-holds}
+use Rattle.grammar.proofs.ReadingAdvances.{State, having, Goes, advances, postfix-goes, argument-goes, infixed-goes, expression-goes}
 
--- what follows a step that goes on may be taken with other turns
-bind-same : {lo b : ℕ} (k l : ℕ × ℕ × Tree → Reading) (r : Reading) → Holds (Onward lo b) r → ((at used : ℕ) (x : Tree) → lo ≤ at → k (at, used, x) ≡ l (at, used, x)) → r >>= k ≡ r >>= l
+-- what follows a reading that advances may be taken with other turns
+bind-same : {ts : List ℕ} {cap g : ℕ} {s : State} (k l : ℕ × ℕ × Tree → Reading) (r : Reading) → Goes ts cap g s r →
+    ((at used : ℕ) (x : Tree) → s .at + g ≤ at → k (at, used, x) ≡ l (at, used, x)) → r >>= k ≡ r >>= l
 unfolding _>>=_
-bind-same k l (done at used x) h e = e at used x (h .told .least)
+bind-same {ts} {cap} k l (done at used x) h e = e at used x (advances ts cap (h .told))
 bind-same k l (refuse why p) h e = refl
 
--- and what follows one that is refused, whatever it is
-bind-none : (k l : ℕ × ℕ × Tree → Reading) (r : Reading) → Holds (λ at used x. ⊥) r → r >>= k ≡ r >>= l
+-- a reading that is refused, whatever may follow
+abbrev Never : Reading → Type 0
+Never r = Holds (λ at used x. ⊥) Any r
+
+bind-none : (k l : ℕ × ℕ × Tree → Reading) (r : Reading) → Never r → r >>= k ≡ r >>= l
 unfolding _>>=_
 bind-none k l (done at used x) h = absurd (h .told)
 bind-none k l (refuse why p) h = refl
 
--- loops over ts, of steps that go on, that turn only where there is a token
-module _ (ts : List ℕ) (more? : ℕ → Bool) (step : ℕ → ℕ → Tree → Reading) (goes : (at used : ℕ) (x : Tree) → Holds (Onward (at + 1) used) (step at used x))
+-- loops over ts, of steps that advance, that turn only where there is a token
+module _ (ts : List ℕ) (cap : ℕ) (more? : ℕ → Bool) (step : ℕ → ℕ → Tree → Reading)
+    (goes : (at used : ℕ) (x : Tree) → more? at ≡ true → Goes ts cap 1 (having at used x) (step at used x))
     (inside : (at : ℕ) → more? at ≡ true → at < tokenCount ts) where
-  turn : (f at used : ℕ) (x : Tree) → more? at ≡ true → while more? step (suc f) at used x ≡ (step at used x >>= λ (at, used, x). while more? step f at used x)
+  turn : (f at used : ℕ) (x : Tree) → more? at ≡ true →
+      while more? step (suc f) at used x ≡ (step at used x >>= λ (at, used, x). while more? step f at used x)
   unfolding while
   turn f at used x e = rw (e, while)
 
@@ -42,7 +52,8 @@ module _ (ts : List ℕ) (more? : ℕ → Bool) (step : ℕ → ℕ → Tree →
   unfolding while
   end f at used x e = rw (e, while)
 
-  enough : (f g at used : ℕ) (x : Tree) → tokenCount ts ≤ f + at → tokenCount ts ≤ g + at → while more? step (suc f) at used x ≡ while more? step (suc g) at used x
+  enough : (f g at used : ℕ) (x : Tree) → tokenCount ts ≤ f + at → tokenCount ts ≤ g + at →
+      while more? step (suc f) at used x ≡ while more? step (suc g) at used x
   enough zero g at used x ef eg =
       by-cases (more? at) (λ e. absurd (omega (arith, inside at e))) (λ e. end zero at used x e ∙ sym (end g at used x e))
   enough (suc f) zero at used x ef eg =
@@ -50,7 +61,7 @@ module _ (ts : List ℕ) (more? : ℕ → Bool) (step : ℕ → ℕ → Tree →
   enough (suc f) (suc g) at used x ef eg =
       by-cases (more? at)
       (λ e. turn (suc f) at used x e
-      ∙ bind-same _ _ (step at used x) (goes at used x) (λ at₁ used₁ x₁ le. enough f g at₁ used₁ x₁ (omega arith) (omega arith))
+      ∙ bind-same _ _ (step at used x) (goes at used x e) (λ at₁ used₁ x₁ le. enough f g at₁ used₁ x₁ (omega arith) (omega arith))
       ∙ sym (turn (suc g) at used x e))
       (λ e. end (suc f) at used x e ∙ sym (end (suc g) at used x e))
 
@@ -62,15 +73,13 @@ module _ (ts : List ℕ) (more? : ℕ → Bool) (step : ℕ → ℕ → Tree →
   loop at used x = enough (tokenCount ts) (suc (tokenCount ts)) at used x (omega arith) (omega arith)
 
   -- it ends only where there is no more to do
-  ended : (f at used : ℕ) (x : Tree) → tokenCount ts ≤ f + at → Holds (λ at used x. more? at ≡ false) (while more? step (suc f) at used x)
+  ended : (f at used : ℕ) (x : Tree) → tokenCount ts ≤ f + at → Holds (λ at used x. more? at ≡ false) Any (while more? step (suc f) at used x)
   unfolding while
   ended zero at used x ef = either (more? at) (λ e. absurd (omega (arith, inside at e))) (λ e. record { told = e })
   ended (suc f) at used x ef =
-      either (more? at) (λ e. after _ (goes at used x) (λ at₁ used₁ x₁ o. ended f at₁ used₁ x₁ (omega (arith, o .least)))) (λ e. record { told = e })
-
--- so it is of what a reading comes to
-comes : {P : ℕ → ℕ → Tree → Type 0} {r : Reading} {at used : ℕ} {x : Tree} → r ≡ done at used x → Holds P r → P at used x
-comes {P} {r} {at} {used} {x} e h = let there : Holds P (done at used x) = rw e at h in there .told
+      either (more? at)
+      (λ e. after _ (goes at used x e) (λ why p h. tt) (λ at₁ used₁ x₁ o. ended f at₁ used₁ x₁ (omega (arith, advances ts cap o))))
+      (λ e. record { told = e })
 
 module _ (text ts : List ℕ) (cap : ℕ) where
   pub postfixes-loop : (m at used : ℕ) (x : Tree) →
@@ -80,11 +89,15 @@ module _ (text ts : List ℕ) (cap : ℕ) where
         | true ↦ (postfix text ts cap at used x >>= λ (at, used, x). postfixes text ts cap m at used x)
       ]
   unfolding postfixes
-  postfixes-loop m = loop ts _ _ (postfix-onward text ts cap) (λ at e. postfix-in ts at m e)
+  postfixes-loop m = loop ts cap _ _ (λ at used x e. postfix-goes text ts cap at used x (postfix-in ts at m e)) (λ at e. postfix-in ts at m e)
 
-  pub postfixes-end : (m at used : ℕ) (x : Tree) {at′ used′ : ℕ} {x′ : Tree} → postfixes text ts cap m at used x ≡ done at′ used′ x′ → binds (postfixOf (kindAt ts at′)) m ≡ false
+  pub postfixes-end : (m at used : ℕ) (x : Tree) {at′ used′ : ℕ} {x′ : Tree} →
+      postfixes text ts cap m at used x ≡ done at′ used′ x′ → binds (postfixOf (kindAt ts at′)) m ≡ false
   unfolding postfixes
-  postfixes-end m at used x e = comes e (ended ts _ _ (postfix-onward text ts cap) (λ at e. postfix-in ts at m e) (tokenCount ts) at used x (omega arith))
+  postfixes-end m at used x e =
+      told-of e
+      (ended ts cap _ _ (λ at used x e. postfix-goes text ts cap at used x (postfix-in ts at m e)) (λ at e. postfix-in ts at m e) (tokenCount ts) at used x
+      (omega arith))
 
   -- an expression with so many levels left, whose rules these are
   module _ (levels : ℕ) where
@@ -98,12 +111,15 @@ module _ (text ts : List ℕ) (cap : ℕ) where
           | true ↦ (infixed text ts cap rec at used x >>= λ (at, used, x). infixes text ts cap rec m at used x)
         ]
     unfolding infixes
-    infixes-loop m = loop ts _ _ (infixed-onward text ts cap rec (expression-onward text ts cap levels)) (λ at e. infix-in ts at m e)
+    infixes-loop m = loop ts cap _ _ (infixed-goes text ts cap rec (expression-goes text ts cap levels) m) (λ at e. infix-in ts at m e)
 
-    pub infixes-end : (m at used : ℕ) (x : Tree) {at′ used′ : ℕ} {x′ : Tree} → infixes text ts cap rec m at used x ≡ done at′ used′ x′ → binds (infixOf (kindAt ts at′) .precedence) m ≡ false
+    pub infixes-end : (m at used : ℕ) (x : Tree) {at′ used′ : ℕ} {x′ : Tree} →
+        infixes text ts cap rec m at used x ≡ done at′ used′ x′ → binds (infixOf (kindAt ts at′) .precedence) m ≡ false
     unfolding infixes
     infixes-end m at used x e =
-        comes e (ended ts _ _ (infixed-onward text ts cap rec (expression-onward text ts cap levels)) (λ at e. infix-in ts at m e) (tokenCount ts) at used x (omega arith))
+        told-of e
+        (ended ts cap _ _ (infixed-goes text ts cap rec (expression-goes text ts cap levels) m) (λ at e. infix-in ts at m e) (tokenCount ts) at used x
+        (omega arith))
 
     -- at the end of the tokens nothing is read
     operand-ended : (read : Reader) (m at used : ℕ) → tokenCount ts ≤ at → operand text ts cap read m at used ≡ refuse End at
@@ -114,25 +130,27 @@ module _ (text ts : List ℕ) (cap : ℕ) where
         by k =
             elim (binds (prefixOf k .precedence) m) [
               | false ↦ atom text ts cap read (startOf k) at used
-              | true ↦ (read (prefixOf k .precedence) (at + 1) used >>= λ (at, used, x). due text ts cap at used (unary (prefixOf k .row) 0 x))
+              | true ↦ (read (prefixOf k .precedence) (at + 1) used >>= λ (at, used, x). due text ts cap at used (unary (label (prefixOf k .row) 0 0) x))
             ]
 
-    expression-ended : (levels m at used : ℕ) → tokenCount ts ≤ at → Holds (λ at used x. ⊥) (expression text ts cap levels m at used)
+    expression-ended : (levels m at used : ℕ) → tokenCount ts ≤ at → Never (expression text ts cap levels m at used)
     unfolding expression level _>>=_
-    expression-ended zero m at used le = gone
-    expression-ended (suc levels) m at used le = rw (operand-ended (expression text ts cap levels) m at used le, level) gone
+    expression-ended zero m at used le = record { told = tt }
+    expression-ended (suc levels) m at used le = rw (operand-ended (expression text ts cap levels) m at used le, level) (record { told = tt })
 
-    argument-ended : (xs : Trees) (at used : ℕ) → tokenCount ts ≤ at → Holds (λ at used x. ⊥) (argument text ts cap rec xs at used)
+    argument-ended : (xs : Trees) (at used : ℕ) → tokenCount ts ≤ at → Never (argument text ts cap rec xs at used)
     unfolding argument need
     argument-ended none at used le = expression-ended levels 0 at used le
     argument-ended (more xs x) at used le =
-        rw (ne-eqb (kindAt ts at) kind.comma (λ e. let same : kind.comma ≡ 0 = sym e ∙ kind-missing ts at le in omega arith), need) (missing-holds text ts cap _ NeedComma at)
+        let other : kindAt ts at ≡ kind.comma → ⊥ = λ e. let same : kind.comma ≡ 0 = sym e ∙ kind-missing ts at le in omega arith in
+        rw (ne-eqb (kindAt ts at) kind.comma other, need) (missing-holds text ts cap NeedComma at tt tt)
 
     abbrev Arguments : ℕ → ℕ → ℕ → ℕ → Trees → Reading
     Arguments = arguments text ts cap rec
 
     module _ (f at used : ℕ) (xs : Trees) where
-      arguments-end : (turns : ℕ) → eqb (kindAt ts at) kind.closeParen ≡ true → Arguments f (suc turns) at used xs ≡ due text ts cap (at + 1) used (call f xs)
+      arguments-end : (turns : ℕ) → eqb (kindAt ts at) kind.closeParen ≡ true →
+          Arguments f (suc turns) at used xs ≡ due text ts cap (at + 1) used (call (label row.function f 0) xs)
       unfolding arguments
       arguments-end turns e = rw (e, arguments)
 
@@ -147,19 +165,21 @@ module _ (text ts : List ℕ) (cap : ℕ) where
           by-cases (eqb (kindAt ts at) kind.closeParen) (λ e. arguments-end turns e ∙ sym (arguments-end others e))
           (λ e. arguments-turn turns e ∙ bind-none _ _ _ (argument-ended xs at used le) ∙ sym (arguments-turn others e))
 
-    arguments-enough : (f turns others at used : ℕ) (xs : Trees) → tokenCount ts ≤ turns + at → tokenCount ts ≤ others + at → Arguments f (suc turns) at used xs ≡ Arguments f (suc others) at used xs
+    arguments-enough : (f turns others at used : ℕ) (xs : Trees) → tokenCount ts ≤ turns + at → tokenCount ts ≤ others + at →
+        Arguments f (suc turns) at used xs ≡ Arguments f (suc others) at used xs
     arguments-enough f zero others at used xs ef eg = arguments-ended f at used xs zero others (omega arith)
     arguments-enough f (suc turns) zero at used xs ef eg = arguments-ended f at used xs (suc turns) zero (omega arith)
     arguments-enough f (suc turns) (suc others) at used xs ef eg =
         by-cases (eqb (kindAt ts at) kind.closeParen) (λ e. arguments-end f at used xs (suc turns) e ∙ sym (arguments-end f at used xs (suc others) e))
         (λ e. arguments-turn f at used xs (suc turns) e
-        ∙ bind-same _ _ _ (argument-onward text ts cap rec (expression-onward text ts cap levels) xs at used) (λ at₁ used₁ x le. arguments-enough f turns others at₁ used₁ (more xs x) (omega arith) (omega arith))
+        ∙ bind-same _ _ _ (argument-goes text ts cap rec (expression-goes text ts cap levels) xs at used)
+        (λ at₁ used₁ x le. arguments-enough f turns others at₁ used₁ (more xs x) (omega arith) (omega arith))
         ∙ sym (arguments-turn f at used xs (suc others) e))
 
     pub arguments-loop : (f at used : ℕ) (xs : Trees) →
         arguments text ts cap rec f (suc (tokenCount ts)) at used xs ≡
         elim (eqb (kindAt ts at) kind.closeParen) [
-          | true ↦ due text ts cap (at + 1) used (call f xs)
+          | true ↦ due text ts cap (at + 1) used (call (label row.function f 0) xs)
           | false ↦ (argument text ts cap rec xs at used >>= λ (at, used, x). arguments text ts cap rec f (suc (tokenCount ts)) at used (more xs x))
         ]
     unfolding arguments
