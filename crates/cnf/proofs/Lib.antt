@@ -1,5 +1,6 @@
--- Laws of clause lists: what the list means (`Meaning`), its sizes, and how it comes about row by row.
+-- Laws of clause lists: joining them crosswise, their sizes, which rows they come from, counting them, and what they mean.
 pub mod Crossing
 pub mod Sizes
-pub mod Rows
+pub mod Sources
+pub mod Counting
 pub mod Meaning

@@ -13,35 +13,35 @@ use borrow.Author.Tests.{lt-leb, leb-true, leb-false}
 use Rattle.limits.specs.Limits.{clausesMax, literalsMax}
 use Rattle.predicate.specs.Tree.{Tree, leaf, unary, binary, both, either, negate}
 use Rattle.cnf.specs.Clause.{Literal, cross, join, clauses, total}
-use Rattle.cnf.specs.Size.{pick, capped, sizeOf, joined, Small}
+use Rattle.cnf.specs.Size.{pick, withinLimits, sizeOf, joinSizes, Limited}
 use Rattle.cnf.specs.declared.Size.{Size}
-use Rattle.cnf.specs.declared.Size.the-variants.{Many, Is}
+use Rattle.cnf.specs.declared.Size.the-variants.{TooMany, Is}
 use Rattle.cnf.proofs.Crossing.{before, cross-cross}
 
 -- ---- caps
 
-many-clauses : (c l : ℕ) → clausesMax < c → capped c l ≡ Many
-unfolding capped
-many-clauses c l h = ap (λ (b : Bool). pick b (pick (leb l literalsMax) (Is c l) Many) Many) (lt-leb c clausesMax h)
+many-clauses : (c l : ℕ) → clausesMax < c → withinLimits c l ≡ TooMany
+unfolding withinLimits
+many-clauses c l h = ap (λ (b : Bool). pick b (pick (leb l literalsMax) (Is c l) TooMany) TooMany) (lt-leb c clausesMax h)
 
-many-literals : (c l : ℕ) → literalsMax < l → capped c l ≡ Many
-unfolding capped
-many-literals c l h = ap (λ (b : Bool). pick (leb c clausesMax) (pick b (Is c l) Many) Many) (lt-leb l literalsMax h) ∙ go (leb c clausesMax)
+many-literals : (c l : ℕ) → literalsMax < l → withinLimits c l ≡ TooMany
+unfolding withinLimits
+many-literals c l h = ap (λ (b : Bool). pick (leb c clausesMax) (pick b (Is c l) TooMany) TooMany) (lt-leb l literalsMax h) ∙ go (leb c clausesMax)
   where
-    go : (p : Bool) → pick p Many Many ≡ Many
+    go : (p : Bool) → pick p TooMany TooMany ≡ TooMany
     go true = refl
     go false = refl
 
 -- what a capped size says
 abbrev Caps : ℕ → ℕ → Size → Type 0
-Caps c l Many = Unit {0}
+Caps c l TooMany = Unit {0}
 Caps c l (Is d m) = (d ≡ c) × (m ≡ l) × (c ≤ clausesMax) × (l ≤ literalsMax)
 
-cap-is : (c l : ℕ) → Caps c l (capped c l)
-unfolding capped
+cap-is : (c l : ℕ) → Caps c l (withinLimits c l)
+unfolding withinLimits
 cap-is c l = go (leb c clausesMax) (leb l literalsMax) refl refl
   where
-    go : (p q : Bool) → leb c clausesMax ≡ p → leb l literalsMax ≡ q → Caps c l (pick p (pick q (Is c l) Many) Many)
+    go : (p q : Bool) → leb c clausesMax ≡ p → leb l literalsMax ≡ q → Caps c l (pick p (pick q (Is c l) TooMany) TooMany)
     go true true e f = (refl, refl, leb-true c clausesMax e, leb-true l literalsMax f)
     go true false e f = tt
     go false q e f = tt
@@ -51,32 +51,32 @@ pub size-is : (cs : List (List Literal)) {c l : ℕ} → sizeOf cs ≡ Is c l
 unfolding sizeOf
 size-is cs e = subst (Caps (length cs) (total cs)) e (cap-is (length cs) (total cs))
 
-pub size-many : (cs : List (List Literal)) → sizeOf cs ≡ Many → length cs ≤ clausesMax → total cs ≤ literalsMax → ⊥
-unfolding sizeOf capped
+pub size-many : (cs : List (List Literal)) → sizeOf cs ≡ TooMany → length cs ≤ clausesMax → total cs ≤ literalsMax → ⊥
+unfolding sizeOf withinLimits
 size-many cs e h k = go (leb (length cs) clausesMax) (leb (total cs) literalsMax) refl refl e
   where
-    go : (p q : Bool) → leb (length cs) clausesMax ≡ p → leb (total cs) literalsMax ≡ q → pick p (pick q (Is (length cs) (total cs)) Many) Many ≡ Many → ⊥
+    go : (p q : Bool) → leb (length cs) clausesMax ≡ p → leb (total cs) literalsMax ≡ q → pick p (pick q (Is (length cs) (total cs)) TooMany) TooMany ≡ TooMany → ⊥
     go true true f g d = let z : _≡_ {A = ℕ} 0 1 = cc in omega arith
     go true false f g d = omega (arith, leb-false (total cs) literalsMax g)
     go false q f g d = omega (arith, leb-false (length cs) clausesMax f)
 
-small-caps : (c l : ℕ) (s : Size) → Caps c l s → Small s
-small-caps c l Many h = tt
-small-caps c l (Is d m) h = (omega (arith, h .0, h .2), omega (arith, h .1, h .3))
+limited-caps : (c l : ℕ) (s : Size) → Caps c l s → Limited s
+limited-caps c l TooMany h = tt
+limited-caps c l (Is d m) h = (omega (arith, h .0, h .2), omega (arith, h .1, h .3))
 
-pub small-size : (cs : List (List Literal)) {s : Size} → s ≡ sizeOf cs → Small s
+pub limited-size : (cs : List (List Literal)) {s : Size} → s ≡ sizeOf cs → Limited s
 unfolding sizeOf
-small-size cs e = subst Small (sym e) (small-caps (length cs) (total cs) (sizeOf cs) (cap-is (length cs) (total cs)))
+limited-size cs e = subst Limited (sym e) (limited-caps (length cs) (total cs) (sizeOf cs) (cap-is (length cs) (total cs)))
 
-pub small-joined : (o : Bool) (a b : Size) → Small (joined o a b)
-unfolding joined
-small-joined o Many b = tt
-small-joined o (Is c l) Many = tt
-small-joined false (Is c l) (Is d m) = small-caps (c + d) (l + m) (capped (c + d) (l + m)) (cap-is (c + d) (l + m))
-small-joined true (Is c l) (Is d m) = small-caps (c * d) (l * d + m * c) (capped (c * d) (l * d + m * c)) (cap-is (c * d) (l * d + m * c))
+pub limited-joined : (o : Bool) (a b : Size) → Limited (joinSizes o a b)
+unfolding joinSizes
+limited-joined o TooMany b = tt
+limited-joined o (Is c l) TooMany = tt
+limited-joined false (Is c l) (Is d m) = limited-caps (c + d) (l + m) (withinLimits (c + d) (l + m)) (cap-is (c + d) (l + m))
+limited-joined true (Is c l) (Is d m) = limited-caps (c * d) (l * d + m * c) (withinLimits (c * d) (l * d + m * c)) (cap-is (c * d) (l * d + m * c))
 
-pub small-is : {s : Size} {c l : ℕ} → s ≡ Is c l → Small s → (c ≤ clausesMax) × (l ≤ literalsMax)
-small-is e h = subst Small e h
+pub limited-is : {s : Size} {c l : ℕ} → s ≡ Is c l → Limited s → (c ≤ clausesMax) × (l ≤ literalsMax)
+limited-is e h = subst Limited e h
 
 -- ---- two sizes together
 
@@ -106,16 +106,16 @@ module _ (c l d m : ℕ) (hc : 0 < c) (hd : 0 < d) where
   right-literals false = omega arith
   right-literals true = omega (arith, le-mul-of-pos-right m hc)
 
-  join-capped : (o : Bool) → joined o (capped c l) (capped d m) ≡ capped (clausesOf o c d) (literalsOf o c l d m)
-  unfolding joined capped
+  join-capped : (o : Bool) → joinSizes o (withinLimits c l) (withinLimits d m) ≡ withinLimits (clausesOf o c d) (literalsOf o c l d m)
+  unfolding joinSizes withinLimits
   join-capped o = go (leb c clausesMax) (leb l literalsMax) (leb d clausesMax) (leb m literalsMax) refl refl refl refl
     where
-      last : (q : Bool) → joined q (Is c l) (Is d m) ≡ capped (clausesOf q c d) (literalsOf q c l d m)
+      last : (q : Bool) → joinSizes q (Is c l) (Is d m) ≡ withinLimits (clausesOf q c d) (literalsOf q c l d m)
       last false = refl
       last true = refl
 
       go : (p q r s : Bool) → leb c clausesMax ≡ p → leb l literalsMax ≡ q → leb d clausesMax ≡ r → leb m literalsMax ≡ s
-          → joined o (pick p (pick q (Is c l) Many) Many) (pick r (pick s (Is d m) Many) Many) ≡ capped (clausesOf o c d) (literalsOf o c l d m)
+          → joinSizes o (pick p (pick q (Is c l) TooMany) TooMany) (pick r (pick s (Is d m) TooMany) TooMany) ≡ withinLimits (clausesOf o c d) (literalsOf o c l d m)
       go false q r s ep eq er es = sym (many-clauses (clausesOf o c d) (literalsOf o c l d m) (omega (arith, left-clauses o, leb-false c clausesMax ep)))
       go true false r s ep eq er es = sym (many-literals (clausesOf o c d) (literalsOf o c l d m) (omega (arith, left-literals o, leb-false l literalsMax eq)))
       go true true false s ep eq er es = sym (many-clauses (clausesOf o c d) (literalsOf o c l d m) (omega (arith, right-clauses o, leb-false d clausesMax er)))
@@ -160,14 +160,14 @@ join-join true xs ys zs = cross-cross xs ys zs
 -- no tree's list is empty
 pub clauses-some : (g : Bool) (t : Tree) → 0 < length (clauses g t)
 unfolding clauses
-clauses-some g (leaf r w) = omega arith
-clauses-some g (unary r k y a) = omega arith
-clauses-some g (binary r k a b) = omega arith
-clauses-some g (both r a b) = join-some g (clauses g a) (clauses g b) (clauses-some g a) (clauses-some g b)
-clauses-some g (either r a b) = join-some (not g) (clauses g a) (clauses g b) (clauses-some g a) (clauses-some g b)
-clauses-some g (negate r a) = clauses-some (not g) a
+clauses-some g (leaf r l) = omega arith
+clauses-some g (unary r l a) = omega arith
+clauses-some g (binary r l a b) = omega arith
+clauses-some g (both r l a b) = join-some g (clauses g a) (clauses g b) (clauses-some g a) (clauses-some g b)
+clauses-some g (either r l a b) = join-some (not g) (clauses g a) (clauses g b) (clauses-some g a) (clauses-some g b)
+clauses-some g (negate r l a) = clauses-some (not g) a
 
-pub size-join : (o : Bool) (xs ys : List (List Literal)) → 0 < length xs → 0 < length ys → joined o (sizeOf xs) (sizeOf ys) ≡ sizeOf (join o xs ys)
+pub size-join : (o : Bool) (xs ys : List (List Literal)) → 0 < length xs → 0 < length ys → joinSizes o (sizeOf xs) (sizeOf ys) ≡ sizeOf (join o xs ys)
 unfolding sizeOf
 size-join o xs ys h k =
-    join-capped (length xs) (total xs) (length ys) (total ys) h k o ∙ ap₂ capped (sym (length-join o xs ys)) (sym (total-join o xs ys))
+    join-capped (length xs) (total xs) (length ys) (total ys) h k o ∙ ap₂ withinLimits (sym (length-join o xs ys)) (sym (total-join o xs ys))

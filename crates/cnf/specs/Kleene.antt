@@ -33,29 +33,29 @@ NOT NULL = NULL
 NOT TRUE = FALSE
 
 -- a value, negated or not
-abbrev pub signed : Bool → Value → Value
-signed false v = v
-signed true v = NOT v
+abbrev pub negateIf : Bool → Value → Value
+negateIf false v = v
+negateIf true v = NOT v
 
 -- ---- a predicate
 
 -- its value, where each atom's row has a value of its own
 unfoldable pub value : (ℕ → Value) → Tree → Value
-value ρ (leaf r w) = ρ r
-value ρ (unary r k y a) = ρ r
-value ρ (binary r k a b) = ρ r
-value ρ (both r a b) = AND (value ρ a) (value ρ b)
-value ρ (either r a b) = OR (value ρ a) (value ρ b)
-value ρ (negate r a) = NOT (value ρ a)
+value ρ (leaf r l) = ρ r
+value ρ (unary r l a) = ρ r
+value ρ (binary r l a b) = ρ r
+value ρ (both r l a b) = AND (value ρ a) (value ρ b)
+value ρ (either r l a b) = OR (value ρ a) (value ρ b)
+value ρ (negate r l a) = NOT (value ρ a)
 
 -- row q is one of its atoms: no AND, OR or NOT, and not inside another atom
-unfoldable pub Atom : ℕ → Tree → Type 0
-Atom q (leaf r w) = q ≡ r
-Atom q (unary r k y a) = q ≡ r
-Atom q (binary r k a b) = q ≡ r
-Atom q (both r a b) = Atom q a ⊎ Atom q b
-Atom q (either r a b) = Atom q a ⊎ Atom q b
-Atom q (negate r a) = Atom q a
+unfoldable pub AtomOf : ℕ → Tree → Type 0
+AtomOf q (leaf r l) = q ≡ r
+AtomOf q (unary r l a) = q ≡ r
+AtomOf q (binary r l a b) = q ≡ r
+AtomOf q (both r l a b) = AtomOf q a ⊎ AtomOf q b
+AtomOf q (either r l a b) = AtomOf q a ⊎ AtomOf q b
+AtomOf q (negate r l a) = AtomOf q a
 
 -- ---- clauses, as a caller reads them
 
@@ -65,16 +65,16 @@ readBack literals at [] = []
 readBack literals at (e ∷ ends) = take (e - at) (drop at literals) ∷ readBack literals e ends
 
 -- the row of a literal's number, and whether it is negated
-unfoldable pub rowOf : ℕ → ℕ
-rowOf n = n / 2
+unfoldable pub literalRow : ℕ → ℕ
+literalRow n = n / 2
 
-unfoldable pub negated : ℕ → Bool
-negated n = eqb (n % 2) 1
+unfoldable pub isNegated : ℕ → Bool
+isNegated n = eqb (n % 2) 1
 
 -- OR over a clause's literals
 unfoldable pub anyOf : (ℕ → Value) → List ℕ → Value
 anyOf ρ [] = FALSE
-anyOf ρ (n ∷ c) = OR (signed (negated n) (ρ (rowOf n))) (anyOf ρ c)
+anyOf ρ (n ∷ c) = OR (negateIf (isNegated n) (ρ (literalRow n))) (anyOf ρ c)
 
 -- AND over the clauses
 unfoldable pub allOf : (ℕ → Value) → List (List ℕ) → Value
@@ -84,7 +84,7 @@ allOf ρ (c ∷ cs) = AND (anyOf ρ c) (allOf ρ cs)
 -- P holds of every literal's row
 unfoldable pub EachIn : (ℕ → Type 0) → List ℕ → Type 0
 EachIn P [] = Unit {0}
-EachIn P (n ∷ c) = P (rowOf n) × EachIn P c
+EachIn P (n ∷ c) = P (literalRow n) × EachIn P c
 
 unfoldable pub Each : (ℕ → Type 0) → List (List ℕ) → Type 0
 Each P [] = Unit {0}
@@ -93,4 +93,4 @@ Each P (c ∷ cs) = EachIn P c × Each P cs
 -- the clauses mean the predicate: they have its value, whatever its atoms have, and their literals are its atoms
 pub record Means (t : Tree) (cs : List (List ℕ)) : Type 0 where
   pub equal : (ρ : ℕ → Value) → allOf ρ cs ≡ value ρ t
-  pub atoms : Each (λ q. Atom q t) cs
+  pub atoms : Each (λ q. AtomOf q t) cs

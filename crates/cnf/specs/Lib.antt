@@ -1,5 +1,5 @@
--- What the clauses of a predicate are: read Clause for the clause list, and Kleene for what it means. Part and Size are how they come about and how many.
+-- What the clauses of a predicate are: read Clause for the clause list, and Kleene for what it means. Source and Size say where they come from and how many they are.
 pub mod Clause
 pub mod Kleene
-pub mod Part
+pub mod Source
 pub mod Size

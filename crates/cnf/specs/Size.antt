@@ -8,32 +8,32 @@ use lib.Dec.{leb}
 use Rattle.limits.specs.Limits.{clausesMax, literalsMax}
 use Rattle.cnf.specs.Clause.{Literal, total}
 use Rattle.cnf.specs.declared.Size.{Size}
-use Rattle.cnf.specs.declared.Size.the-variants.{Many, Is}
+use Rattle.cnf.specs.declared.Size.the-variants.{TooMany, Is}
 
 abbrev pub pick : Bool → Size → Size → Size
 pick true s t = s
 pick false s t = t
 
 -- c clauses with l literals in all, or too many
-unfoldable pub capped : ℕ → ℕ → Size
-capped c l = pick (leb c clausesMax) (pick (leb l literalsMax) (Is c l) Many) Many
+unfoldable pub withinLimits : ℕ → ℕ → Size
+withinLimits c l = pick (leb c clausesMax) (pick (leb l literalsMax) (Is c l) TooMany) TooMany
 
 unfoldable pub sizeOf : List (List Literal) → Size
-sizeOf cs = capped (length cs) (total cs)
+sizeOf cs = withinLimits (length cs) (total cs)
 
--- the size of two lists together, from their sizes
-unfoldable pub joined : Bool → Size → Size → Size
-joined o Many b = Many
-joined o (Is c l) Many = Many
-joined false (Is c l) (Is d m) = capped (c + d) (l + m)
-joined true (Is c l) (Is d m) = capped (c * d) (l * d + m * c)
+-- the size of two lists joined, from their sizes
+unfoldable pub joinSizes : Bool → Size → Size → Size
+joinSizes crosswise TooMany b = TooMany
+joinSizes crosswise (Is c l) TooMany = TooMany
+joinSizes false (Is c l) (Is d m) = withinLimits (c + d) (l + m)
+joinSizes true (Is c l) (Is d m) = withinLimits (c * d) (l * d + m * c)
 
--- a size that was not too many
-abbrev pub Small : Size → Type 0
-Small Many = Unit {0}
-Small (Is c l) = (c ≤ clausesMax) × (l ≤ literalsMax)
+-- a size is too many, or within the limits
+abbrev pub Limited : Size → Type 0
+Limited TooMany = Unit {0}
+Limited (Is c l) = (c ≤ clausesMax) × (l ≤ literalsMax)
 
 -- s is the size of a list that is not empty
-pub record Counts (s : Size) (cs : List (List Literal)) : Type 0 where
+pub record SizeOfSome (s : Size) (cs : List (List Literal)) : Type 0 where
   pub size : s ≡ sizeOf cs
   pub some : 0 < length cs

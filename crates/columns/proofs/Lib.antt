@@ -1,3 +1,3 @@
--- Laws of tests and of gathering, for the crate above.
-pub mod Testing
-pub mod Gathering
+-- Laws of tests and of the lookups that they make, for the crate above.
+pub mod TestsByShape
+pub mod PartialLookups

@@ -1,3 +1,3 @@
--- Which clauses are lookups on a column, and their values: Lookup. Gather is how the functions find that out.
+-- Which clauses are lookups on a column, and their values: Lookup. Partial is how the functions find that out.
 pub mod Lookup
-pub mod Gather
+pub mod Partial

@@ -1,5 +1,5 @@
-// What the literals of a clause test of a column, and the values that they look for, gathered as they are met.
+// What the literals of a clause test of a column, and the lookup that they make.
 //
 // docs/FORMAT.md has the rules; specs/ has them as definitions.
-pub mod gather;
+pub mod partial;
 pub mod test;

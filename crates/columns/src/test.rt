@@ -4,40 +4,44 @@ use predicate::kind;
 use predicate::shape_at;
 use rows::Row;
 use rows::row_at;
+use values::Constant;
+use values::constant_of_row;
+use widths::u64_to_usize;
 ghost use mathlib.Core.Path.{_≡_};
 ghost use Prim.Native.Nat.{_<_};
+ghost use Rattle.rows.specs.Label.{leafLabel};
 ghost use Rattle.predicate.specs.Tree.{treeAt, Sound};
-ghost use Rattle.columns.specs.Gather.{isLeaf};
-ghost use Rattle.columns.specs.Lookup.{leafOf, isColumn, isConstant, equalOf as equalTest, isOf, testOf};
+ghost use Rattle.columns.specs.Partial.{isLeaf};
+ghost use Rattle.columns.specs.Lookup.{leafOf, isColumn, isConstant, equalTest, isTest, testOf};
 
-// That it equals a constant, whose row this is; that it is NULL (0) or NAN (1); or no such thing.
+// That a column equals a constant; that it is NULL (0) or NAN (1); or no such thing.
 pub enum Test {
     Other,
-    Equals(usize, Row),
+    Equals(usize, Constant),
     Is(usize, u64),
 }
 
-fn is_column(w: Row) -> bool
-    ensures { λ r. ⌜ r ≡ isColumn w ⌝ }
+fn is_column(leaf: Row) -> bool
+    ensures { λ r. ⌜ r ≡ isColumn (leafLabel leaf) ⌝ }
 {
-    w.kind == kind::COLUMN
+    leaf.kind == kind::COLUMN
 }
 
-fn is_constant(w: Row) -> bool
-    ensures { λ r. ⌜ r ≡ isConstant w ⌝ }
+fn is_constant(leaf: Row) -> bool
+    ensures { λ r. ⌜ r ≡ isConstant (leafLabel leaf) ⌝ }
 {
-    if kind::NULL <= w.kind {
-        w.kind <= kind::STRING
+    if kind::NULL <= leaf.kind {
+        leaf.kind <= kind::STRING
     } else {
         false
     }
 }
 
 // Is it a row with no operands?
-fn is_leaf(s: Shape) -> bool
-    ensures { λ r. ⌜ r ≡ isLeaf s ⌝ }
+fn is_leaf(shape: Shape) -> bool
+    ensures { λ r. ⌜ r ≡ isLeaf shape ⌝ }
 {
-    match s {
+    match shape {
         Shape::Leaf => true,
         Shape::One(_) => false,
         Shape::Two(_, _) => false,
@@ -47,13 +51,13 @@ fn is_leaf(s: Shape) -> bool
     }
 }
 
-// The row of a column or a constant, and one of no kind for any other.
-fn leaf_at(rows: &[u64], r: usize) -> Row
-    requires { ⌜ Sound (now rows) r ⌝ }
-    ensures { λ w. ⌜ w ≡ leafOf (treeAt (now (rows .entry)) r) ⌝ }
+// Answers the row of a column or a constant, and one of no kind for any other.
+fn leaf_at(rows: &[u64], row: usize) -> Row
+    requires { ⌜ Sound (now rows) row ⌝ }
+    ensures { λ w. ⌜ leafLabel w ≡ leafOf (treeAt (now (rows .entry)) row) ⌝ }
 {
-    if is_leaf(shape_at(rows, r)) {
-        row_at(rows, r)
+    if is_leaf(shape_at(rows, row)) {
+        row_at(rows, row)
     } else {
         Row {
             kind: 0,
@@ -63,19 +67,19 @@ fn leaf_at(rows: &[u64], r: usize) -> Row
     }
 }
 
-// Equal of two operands.
-fn equal_of(v: Row, w: Row) -> Test
-    ensures { λ r. ⌜ r ≡ equalTest v w ⌝ }
+// Answers what Equal of two operands tests.
+fn equal_test(left: Row, right: Row) -> Test
+    ensures { λ r. ⌜ r ≡ equalTest (leafLabel left) (leafLabel right) ⌝ }
 {
-    if is_column(v) {
-        if is_constant(w) {
-            Test::Equals(v.x as usize, w)
+    if is_column(left) {
+        if is_constant(right) {
+            Test::Equals(u64_to_usize(left.x), constant_of_row(right))
         } else {
             Test::Other
         }
-    } else if is_column(w) {
-        if is_constant(v) {
-            Test::Equals(w.x as usize, v)
+    } else if is_column(right) {
+        if is_constant(left) {
+            Test::Equals(u64_to_usize(right.x), constant_of_row(left))
         } else {
             Test::Other
         }
@@ -84,35 +88,35 @@ fn equal_of(v: Row, w: Row) -> Test
     }
 }
 
-// Is of an operand: a test where that is a column.
-fn is_of(v: Row, y: u64) -> Test
-    ensures { λ r. ⌜ r ≡ isOf v y ⌝ }
+// Answers what Is of an operand tests.
+fn is_test(operand: Row, what: u64) -> Test
+    ensures { λ r. ⌜ r ≡ isTest (leafLabel operand) what ⌝ }
 {
-    if is_column(v) {
-        Test::Is(v.x as usize, y)
+    if is_column(operand) {
+        Test::Is(u64_to_usize(operand.x), what)
     } else {
         Test::Other
     }
 }
 
-// What the atom at row r tests.
-pub fn test_at(rows: &[u64], r: usize) -> Test
-    requires { ⌜ Sound (now rows) r ⌝ }
-    ensures { λ t. ⌜ t ≡ testOf (treeAt (now (rows .entry)) r) ⌝ }
+// Answers what the atom at a row tests.
+pub fn test_at(rows: &[u64], atom: usize) -> Test
+    requires { ⌜ Sound (now rows) atom ⌝ }
+    ensures { λ t. ⌜ t ≡ testOf (treeAt (now (rows .entry)) atom) ⌝ }
 {
-    let w = row_at(rows, r);
-    let s = shape_at(rows, r);
-    match s {
-        Shape::One(x) => {
-            if w.kind == kind::IS {
-                is_of(leaf_at(rows, x), w.y)
+    let row = row_at(rows, atom);
+    let shape = shape_at(rows, atom);
+    match shape {
+        Shape::One(operand) => {
+            if row.kind == kind::IS {
+                is_test(leaf_at(rows, operand), row.y)
             } else {
                 Test::Other
             }
         }
-        Shape::Two(x, y) => {
-            if w.kind == kind::EQUAL {
-                equal_of(leaf_at(rows, x), leaf_at(rows, y))
+        Shape::Two(left, right) => {
+            if row.kind == kind::EQUAL {
+                equal_test(leaf_at(rows, left), leaf_at(rows, right))
             } else {
                 Test::Other
             }

@@ -1,5 +1,5 @@
 -- How much there may be of anything (FORMAT §1).
-use Prim.Native.Nat.{ℕ}
+use Prim.Native.Nat.{ℕ, _+_}
 
 -- bytes of a text
 abbrev pub textMax : ℕ
@@ -27,3 +27,7 @@ clausesMax = 1_024
 
 abbrev pub literalsMax : ℕ
 literalsMax = 8_192
+
+-- one more than the most clauses: where counts stop
+abbrev pub clausesHeld : ℕ
+clausesHeld = clausesMax + 1

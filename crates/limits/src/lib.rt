@@ -19,3 +19,6 @@ pub const COLUMN_MAX: u64 = 65535;
 pub const CLAUSES_MAX: u32 = 1024;
 
 pub const LITERALS_MAX: u32 = 8192;
+
+// One more than CLAUSES_MAX: where counts stop.
+pub const CLAUSES_HELD: u32 = CLAUSES_MAX + 1;

@@ -1,5 +1,5 @@
 -- Chains of cells. A chain is its first cell and the chain after that (`chain-step`), and is as it was while only new cells are made (`chain-kept`);
--- the loops of `put` (`put-none`, `put-more`, `put-all`) and the halves of `copy` (`copied-none`, `copied-one`, `copied-halves`).
+-- the loops of `put` (`prepended-none`, `prepended-more`, `prepended-all`) and the halves of `copy` (`copied-none`, `copied-one`, `copied-halves`).
 -- Assumes nothing.
 use Prim.Native.Nat.{ℕ, zero, suc, _+_, _*_, _-_, _<_, _≤_}
 use mathlib.Core.Path.{_≡_, refl, sym, ap, ap₂, _∙_, subst}
@@ -8,7 +8,9 @@ use native.Mathlib.Omega.{arith}
 use native.Mathlib.Decide.{decLt}
 use lib.ListN.{length, getD, set, length-set}
 use lib.Seq.{getD-set-same, getD-set-other}
-use Rattle.listing.specs.Chain.{chainTo, chainOf, freeOf, Cells, Heads, Put, Clear, Copied}
+use Rattle.limits.specs.Limits.{literalsMax}
+use Rattle.listing.specs.Chain.{chainTo, chainOf, freeOf, CellsMade, HeadsAt}
+use Rattle.listing.specs.Heads.{Prepended, CopySafe, Copied}
 
 -- ---- chains
 
@@ -40,7 +42,7 @@ chain-step u (suc h) s p =
     ap (λ (c : List ℕ). getD u (2 * suc h) 0 ∷ c)
     (same-long u h (getD u (2 * suc h + 1) 0) (getD u (2 * suc h + 1) 0) (λ k a b. s k a (omega arith)) (omega arith) (omega arith))
 
-kept-to : (u v : List ℕ) (n f h : ℕ) → Cells u n → ((i : ℕ) → 0 < i → i < 2 * n → getD v i 0 ≡ getD u i 0) → h < n → chainTo v f h ≡ chainTo u f h
+kept-to : (u v : List ℕ) (n f h : ℕ) → CellsMade u n → ((i : ℕ) → 0 < i → i < 2 * n → getD v i 0 ≡ getD u i 0) → h < n → chainTo v f h ≡ chainTo u f h
 unfolding chainTo
 kept-to u v n zero h c s p = refl
 kept-to u v n (suc f) zero c s p = refl
@@ -49,48 +51,48 @@ kept-to u v n (suc f) (suc h) c s p =
     ap₂ (λ (x : ℕ) (l : List ℕ). x ∷ l) (s (2 * suc h) (omega arith) (omega arith))
     (ap (chainTo v f) (s (2 * suc h + 1) (omega arith) (omega arith)) ∙ kept-to u v n f (getD u (2 * suc h + 1) 0) c s (omega arith))
 
-pub chain-kept : (u v : List ℕ) (n h : ℕ) → Cells u n → ((i : ℕ) → 0 < i → i < 2 * n → getD v i 0 ≡ getD u i 0) → h < n → chainOf v h ≡ chainOf u h
+pub chain-kept : (u v : List ℕ) (n h : ℕ) → CellsMade u n → ((i : ℕ) → 0 < i → i < 2 * n → getD v i 0 ≡ getD u i 0) → h < n → chainOf v h ≡ chainOf u h
 unfolding chainOf
 chain-kept u v n h c s p = kept-to u v n h h c s p
 
 -- ---- `put`
 
-pub put-none : (x : ℕ) (u d : List ℕ) (first n : ℕ) → Put x u u d d first 0 n n
-put-none x u d first n = record {
+pub prepended-none : (x : ℕ) (u d : List ℕ) (first n : ℕ) → Prepended x u u d d first 0 n n
+prepended-none x u d first n = record {
   used = omega arith;
-  grown = record { more = omega arith; cells = refl; heads = refl; old = λ i z h. refl; before = λ i h. refl; after = λ i h. refl };
+  elsewhere = record { more = omega arith; cells = refl; heads = refl; old = λ i z h. refl; before = λ i h. refl; after = λ i h. refl };
   heads = λ i h. absurd (omega arith);
   here = λ i h. absurd (omega arith);
   next = λ i h. absurd (omega arith);
 }
 
 -- where the next turn writes
-pub record Turn (v e : List ℕ) (n i m : ℕ) : Type 0 where
+pub record PrependTurn (v e : List ℕ) (n i m : ℕ) : Type 0 where
   pub cell : 2 * m + 1 < length v
-  pub low : m < 8193
+  pub low : m ≤ literalsMax
   pub place : i < length e
   pub head : getD e i 0 < n
 
-module _ {x : ℕ} {u v d e : List ℕ} {first k n m : ℕ} (p : Put x u v d e first k n m) where
-  pub put-turn : {each : ℕ} → Cells u n → Heads d n first each → 2 * (n + each) ≤ length u → k < each → Turn v e n (first + k) m
-  put-turn c o r h = record {
-    cell = omega (arith, p .used, p .grown .cells);
+module _ {x : ℕ} {u v d e : List ℕ} {first k n m : ℕ} (p : Prepended x u v d e first k n m) where
+  pub prepend-turn : {each : ℕ} → CellsMade u n → HeadsAt d n first each → 2 * (n + each) ≤ length u → k < each → PrependTurn v e n (first + k) m
+  prepend-turn c o r h = record {
+    cell = omega (arith, p .used, p .elsewhere .cells);
     low = omega (arith, p .used, c .long);
-    place = omega (arith, p .grown .heads, o .within);
-    head = omega (arith, p .grown .after (first + k) (omega arith), o .below k h);
+    place = omega (arith, p .elsewhere .heads, o .within);
+    head = omega (arith, p .elsewhere .after (first + k) (omega arith), o .below k h);
   }
 
-  pub put-more : {i c b h w : ℕ} → i ≡ first + k → c ≡ 2 * m → b ≡ c + 1 → h ≡ getD e i 0 → w ≡ m → b < length v → i < length e
-      → Put x u (set (set v c x) b h) d (set e i w) first (k + 1) n (m + 1)
-  put-more {i} {c} {b} {h} {w} ei ec eb eh ew rv re = record {
+  pub prepended-more : {i c b h w : ℕ} → i ≡ first + k → c ≡ 2 * m → b ≡ c + 1 → h ≡ getD e i 0 → w ≡ m → b < length v → i < length e
+      → Prepended x u (set (set v c x) b h) d (set e i w) first (k + 1) n (m + 1)
+  prepended-more {i} {c} {b} {h} {w} ei ec eb eh ew rv re = record {
     used = omega (arith, p .used);
-    grown = record {
+    elsewhere = record {
       more = omega (arith, p .used);
-      cells = length-set (set v c x) b h ∙ length-set v c x ∙ p .grown .cells;
-      heads = length-set e i w ∙ p .grown .heads;
-      old = λ j z q. cell j (omega (arith, p .used)) ∙ p .grown .old j z q;
-      before = λ j q. getD-set-other e i j w 0 (λ z. omega arith) ∙ p .grown .before j q;
-      after = λ j q. getD-set-other e i j w 0 (λ z. omega arith) ∙ p .grown .after j (omega arith);
+      cells = length-set (set v c x) b h ∙ length-set v c x ∙ p .elsewhere .cells;
+      heads = length-set e i w ∙ p .elsewhere .heads;
+      old = λ j z q. cell j (omega (arith, p .used)) ∙ p .elsewhere .old j z q;
+      before = λ j q. getD-set-other e i j w 0 (λ z. omega arith) ∙ p .elsewhere .before j q;
+      after = λ j q. getD-set-other e i j w 0 (λ z. omega arith) ∙ p .elsewhere .after j (omega arith);
     };
     heads = λ j q. heads-go j q (decLt j k);
     here = λ j q. here-go j q (decLt j k);
@@ -120,22 +122,22 @@ module _ {x : ℕ} {u v d e : List ℕ} {first k n m : ℕ} (p : Put x u v d e f
           ap (λ (a : ℕ). getD (set (set v c x) b h) a 0) z
           ∙ getD-set-same (set v c x) b h 0 (omega (arith, length-set v c x))
           ∙ eh
-          ∙ p .grown .after i (omega arith)
+          ∙ p .elsewhere .after i (omega arith)
           ∙ ap (λ (a : ℕ). getD d a 0) (sym y)
 
 -- all are done, and the next free cell is noted
-pub put-all : {x : ℕ} {u v d e : List ℕ} {first k each n m : ℕ} → Put x u v d e first k n m → k ≤ each → each ≤ k → 0 < n → {w : ℕ} → w ≡ m → 0 < length v
-    → Put x u (set v 0 w) d e first each n (freeOf (set v 0 w))
-put-all {x} {u} {v} {d} {e} {first} {k} {each} {n} {m} p a b s {w} ew r =
-    subst (λ (i : ℕ). Put x u (set v 0 w) d e first each n i) (sym (getD-set-same v 0 w 0 r ∙ ew)) (record {
+pub prepended-all : {x : ℕ} {u v d e : List ℕ} {first k each n m : ℕ} → Prepended x u v d e first k n m → k ≤ each → each ≤ k → 0 < n → {w : ℕ} → w ≡ m → 0 < length v
+    → Prepended x u (set v 0 w) d e first each n (freeOf (set v 0 w))
+prepended-all {x} {u} {v} {d} {e} {first} {k} {each} {n} {m} p a b s {w} ew r =
+    subst (λ (i : ℕ). Prepended x u (set v 0 w) d e first each n i) (sym (getD-set-same v 0 w 0 r ∙ ew)) (record {
       used = omega (arith, p .used);
-      grown = record {
-        more = p .grown .more;
-        cells = length-set v 0 w ∙ p .grown .cells;
-        heads = p .grown .heads;
-        old = λ i z h. other i z ∙ p .grown .old i z h;
-        before = p .grown .before;
-        after = λ i h. p .grown .after i (omega arith);
+      elsewhere = record {
+        more = p .elsewhere .more;
+        cells = length-set v 0 w ∙ p .elsewhere .cells;
+        heads = p .elsewhere .heads;
+        old = λ i z h. other i z ∙ p .elsewhere .old i z h;
+        before = p .elsewhere .before;
+        after = λ i h. p .elsewhere .after i (omega arith);
       };
       heads = λ i h. p .heads i (omega arith);
       here = λ i h. other (2 * (n + i)) (omega arith) ∙ p .here i (omega arith);
@@ -146,15 +148,15 @@ put-all {x} {u} {v} {d} {e} {first} {k} {each} {n} {m} p a b s {w} ew r =
     other i h = getD-set-other v 0 i w 0 (λ z. omega arith)
 
 -- the cells that `put` leaves are made
-pub put-cells : {x : ℕ} {u v d e : List ℕ} {first each n m : ℕ} → Put x u v d e first each n m → Cells u n → Heads d n first each → Cells v m
-put-cells {x} {u} {v} {d} {e} {first} {each} {n} {m} p c o = record {
+pub prepended-cells : {x : ℕ} {u v d e : List ℕ} {first each n m : ℕ} → Prepended x u v d e first each n m → CellsMade u n → HeadsAt d n first each → CellsMade v m
+prepended-cells {x} {u} {v} {d} {e} {first} {each} {n} {m} p c o = record {
   some = omega (arith, p .used, c .some);
-  long = omega (arith, p .grown .cells, c .long);
+  long = omega (arith, p .elsewhere .cells, c .long);
   falls = λ h a b. go h a b (decLt h n);
 }
   where
     go : (h : ℕ) → 0 < h → h < m → Dec (h < n) → getD v (2 * h + 1) 0 < h
-    go h a b (yes r) = omega (arith, p .grown .old (2 * h + 1) (omega arith) (omega arith), c .falls h a r)
+    go h a b (yes r) = omega (arith, p .elsewhere .old (2 * h + 1) (omega arith) (omega arith), c .falls h a r)
     go h a b (no r) =
         let j = h - n in
         let z : n + j ≡ h = omega arith in
@@ -178,12 +180,12 @@ copied-one d from to e r = record {
 }
 
 -- by halves, the second one first
-module _ {from to each : ℕ} (c : Clear from to each) (half rest : ℕ) (e : half + rest ≡ each) where
-  pub clear-second : Clear (from + half) (to + half) rest
-  clear-second = record { apart = λ k j a b g. c .apart (half + k) (half + j) (omega arith) (omega arith) (omega arith) }
+module _ {from to each : ℕ} (c : CopySafe from to each) (half rest : ℕ) (e : half + rest ≡ each) where
+  pub safe-second : CopySafe (from + half) (to + half) rest
+  safe-second = record { apart = λ k j a b g. c .apart (half + k) (half + j) (omega arith) (omega arith) (omega arith) }
 
-  pub clear-first : Clear from to half
-  clear-first = record { apart = λ k j a b g. c .apart k j a (omega arith) g }
+  pub safe-first : CopySafe from to half
+  safe-first = record { apart = λ k j a b g. c .apart k j a (omega arith) g }
 
   pub copied-halves : {d d' d'' : List ℕ} → Copied d d' (from + half) (to + half) rest → Copied d' d'' from to half → Copied d d'' from to each
   copied-halves {d} {d'} {d''} p q = record {

@@ -1,6 +1,6 @@
--- Laws of chains, and that those of a predicate's clauses are strung and written.
+-- Laws of chains, and that those of a predicate's clauses are frontier and written.
 pub mod Chains
-pub mod Strings
-pub mod Keeping
-pub mod Placing
-pub mod Writing
+pub mod PrependedClauses
+pub mod SavedHeads
+pub mod PrependLoop
+pub mod WrittenClauses

@@ -1,2 +1,4 @@
--- What the functions that string and write clauses promise each other. No entry's promise names this.
+-- How listing goes about it: read Chain for clauses as chains of cells, Heads for what is done with their heads, and Listing for the whole.
 pub mod Chain
+pub mod Heads
+pub mod Listing

@@ -1,7 +1,8 @@
--- `Matching` has the theorem: a lookup keeps exactly the right cells. `Worlds` says that it and the theorem of `split` speak of the same values.
-pub mod Turned
-pub mod Matching
-pub mod Worlds
-pub mod Counting
-pub mod Picking
-pub mod Answering
+-- `LookupMatches` has the theorem: a lookup keeps exactly the right cells. `ChoiceOfCells` says that it and the theorem of `split` speak of the same values.
+pub mod HeldCounts
+pub mod ClauseOfJoined
+pub mod EqualSymmetric
+pub mod LookupMatches
+pub mod ChoiceOfCells
+pub mod AnswerOfClause
+pub mod LookupMeans

@@ -2,4 +2,4 @@
 pub mod Cell
 pub mod Meaning
 pub mod Answer
-pub mod Find
+pub mod ByNumber

@@ -1,57 +1,60 @@
 // One clause of a predicate by its number, whatever the others are.
-use crate::counts::count_at;
-use cnf::Part;
-use cnf::part_at;
-use columns::gather::Gathered;
-use columns::gather::gather_at;
+use crate::counts::clause_count_at;
+use cnf::Source;
+use cnf::past_nots;
+use columns::partial::PartialLookup;
+use columns::partial::with_literal;
 ghost use mathlib.Core.Path.{_≡_};
-ghost use Rattle.lookup.specs.Find.{Ready, turnOf, gatheredOf};
+ghost use Rattle.lookup.specs.ByNumber.{CanFind, clauseOfTwo, withClause};
 
-// A row, and a clause of it.
-pub struct Turn {
+// A row, and the number of a clause of it.
+pub struct RowClause {
     pub row: usize,
     pub clause: usize,
 }
 
-// Clause k of one list after the other, of which the first has so many.
-fn turn_to(x: usize, y: usize, many: usize, k: usize) -> Turn
-    ensures { λ t. ⌜ t ≡ turnOf x y many k ⌝ }
+// Finds a clause of two rows' lists, one after the other, of which the first has so many.
+fn clause_of_two(left: usize, right: usize, many: usize, clause: usize) -> RowClause
+    ensures { λ c. ⌜ c ≡ clauseOfTwo left right many clause ⌝ }
 {
-    if k < many {
-        Turn { row: x, clause: k }
+    if clause < many {
+        RowClause { row: left, clause }
     } else {
-        let left = k - many;
-        Turn {
-            row: y,
-            clause: left,
+        let past = clause - many;
+        RowClause {
+            row: right,
+            clause: past,
         }
     }
 }
 
-// What the literals of clause k of row r test, gathered after g: value number n is kept.
-pub fn visit(
+// Adds the literals of a clause of a row.
+pub fn with_clause(
     rows: &[u64],
     table: &[u16],
-    r: usize,
-    neg: bool,
-    k: usize,
-    n: usize,
-    g: Gathered,
-) -> Gathered
-    requires { ⌜ Ready (now rows) (now table) r neg k g ⌝ }
-    ensures { λ v. ⌜ v ≡ gatheredOf (now (rows .entry)) r neg k n g ⌝ }
+    row: usize,
+    negated: bool,
+    clause: usize,
+    wanted: usize,
+    partial: PartialLookup,
+) -> PartialLookup
+    requires { ⌜ CanFind (now rows) (now table) row negated clause partial ⌝ }
+    ensures { λ p. ⌜ p ≡ withClause (now (rows .entry)) row negated clause wanted partial ⌝ }
 {
-    let v = part_at(rows, r, neg);
-    match v {
-        Part::Here(q, h) => gather_at(rows, q, h, n, g),
-        Part::Join(x, y, h, o) => {
-            if o {
-                let each = count_at(table, y, h);
-                let left = visit(rows, table, x, h, k / each, n, g);
-                visit(rows, table, y, h, k % each, n, left)
+    let source = past_nots(rows, row, negated);
+    match source {
+        Source::Atom(atom, atom_negated) => {
+            with_literal(rows, atom, atom_negated, wanted, partial)
+        }
+        Source::Joined(left, right, both_negated, crosswise) => {
+            if crosswise {
+                let each = clause_count_at(table, right, both_negated);
+                let first = with_clause(rows, table, left, both_negated, clause / each, wanted, partial);
+                with_clause(rows, table, right, both_negated, clause % each, wanted, first)
             } else {
-                let t = turn_to(x, y, count_at(table, x, h), k);
-                visit(rows, table, t.row, h, t.clause, n, g)
+                let many = clause_count_at(table, left, both_negated);
+                let found = clause_of_two(left, right, many, clause);
+                with_clause(rows, table, found.row, both_negated, found.clause, wanted, partial)
             }
         }
     }

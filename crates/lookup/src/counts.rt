@@ -1,120 +1,145 @@
 // How many clauses each row has, read plainly and negated: one pass over the rows, from which any clause is found by its number.
+use limits::CLAUSES_HELD;
 use predicate::Shape;
 use predicate::shape_at;
+use widths::u16_to_usize;
 ghost use mathlib.Core.Path.{_≡_};
 ghost use mathlib.Core.Bool.{Bool};
 ghost use Prim.Native.Nat.{_+_, _*_, _<_, _≤_, min};
 ghost use lib.ListN.{length, getD};
+ghost use Rattle.limits.specs.Limits.{clausesHeld};
 ghost use Rattle.predicate.specs.Tree.{Sound};
 ghost use Rattle.cnf.specs.Clause.{bit};
-ghost use Rattle.lookup.specs.Find.{held, countIn, one, countsOf, Counted};
+ghost use Rattle.lookup.specs.ByNumber.{countWhen, atomCounts, bothCounts, eitherCounts, notCounts, SmallCounts};
+ghost use Rattle.lookup.specs.ByNumber.{clauseCounts, CountsBelow};
 
-// The clauses of a row in both readings, held at one more than the most that are listed.
-pub struct Counts {
+// How many clauses a row has in both readings, held at one more than the most that are listed.
+pub struct ClauseCounts {
     pub plain: u16,
     pub negated: u16,
 }
 
-const HELD: u32 = 1025;
-
-fn hold(x: u32) -> u16
-    ensures { λ r. ⌜ r ≡ min x held ⌝ }
+// Answers a count, or where counts stop.
+fn hold(many: u32) -> u16
+    ensures { λ r. ⌜ r ≡ min many clausesHeld ⌝ }
 {
-    if x <= HELD { x as u16 } else { 1025 }
-}
-
-fn sum(a: u16, b: u16) -> u16
-    ensures { λ r. ⌜ r ≡ min (a + b) held ⌝ }
-{
-    hold(a as u32 + b as u32)
-}
-
-fn product(a: u16, b: u16) -> u16
-    requires { ⌜ (a ≤ held) × (b ≤ held) ⌝ }
-    ensures { λ r. ⌜ r ≡ min (a * b) held ⌝ }
-{
-    hold(a as u32 * b as u32)
-}
-
-// The counts that stand in the table.
-fn counts_at(table: &[u16], r: usize) -> Counts
-    requires { ⌜ 2 * r + 1 < length (now table) ⌝ }
-    ensures { λ c. ⌜ ((g : Bool) → countIn c g ≡ getD (now (table .entry)) (2 * r + bit g) 0) ⌝ }
-{
-    let at = 2 * r;
-    let plain = table[at];
-    let negated = table[at + 1];
-    Counts { plain, negated }
-}
-
-// The count of a row in a reading.
-pub fn count_at(table: &[u16], r: usize, neg: bool) -> usize
-    requires { ⌜ 2 * r + 1 < length (now table) ⌝ }
-    ensures { λ c. ⌜ c ≡ getD (now (table .entry)) (2 * r + bit neg) 0 ⌝ }
-{
-    let c = counts_at(table, r);
-    if neg {
-        c.negated as usize
+    if many <= CLAUSES_HELD {
+        many as u16
     } else {
-        c.plain as usize
+        CLAUSES_HELD as u16
     }
 }
 
-// Those of an atom, which has one clause in both readings.
-fn single() -> Counts
-    ensures { λ c. ⌜ c ≡ one ⌝ }
+fn held_sum(left: u16, right: u16) -> u16
+    ensures { λ r. ⌜ r ≡ min (left + right) clausesHeld ⌝ }
 {
-    Counts {
+    hold(left as u32 + right as u32)
+}
+
+fn held_product(left: u16, right: u16) -> u16
+    requires { ⌜ (left ≤ clausesHeld) × (right ≤ clausesHeld) ⌝ }
+    ensures { λ r. ⌜ r ≡ min (left * right) clausesHeld ⌝ }
+{
+    hold(left as u32 * right as u32)
+}
+
+// Reads the counts of a row.
+fn clause_counts_at(table: &[u16], row: usize) -> ClauseCounts
+    requires { ⌜ 2 * row + 1 < length (now table) ⌝ }
+    ensures { λ c. ⌜ ((g : Bool) → countWhen c g ≡ getD (now (table .entry)) (2 * row + bit g) 0) ⌝ }
+{
+    let at = 2 * row;
+    let plain = table[at];
+    let negated = table[at + 1];
+    ClauseCounts { plain, negated }
+}
+
+// Reads the count of a row in one reading.
+pub fn clause_count_at(table: &[u16], row: usize, negated: bool) -> usize
+    requires { ⌜ 2 * row + 1 < length (now table) ⌝ }
+    ensures { λ c. ⌜ c ≡ getD (now (table .entry)) (2 * row + bit negated) 0 ⌝ }
+{
+    let counts = clause_counts_at(table, row);
+    if negated {
+        u16_to_usize(counts.negated)
+    } else {
+        u16_to_usize(counts.plain)
+    }
+}
+
+// Counts the clauses of an atom: one in both readings.
+fn atom_counts() -> ClauseCounts
+    ensures { λ c. ⌜ c ≡ atomCounts ⌝ }
+{
+    ClauseCounts {
         plain: 1,
         negated: 1,
     }
 }
 
-// The counts of a row, from those of its operands.
-fn counted(rows: &[u64], table: &[u16], r: usize) -> Counts
-    requires { ⌜ Sound (now rows) r × (2 * r ≤ length (now table)) × Counted (now rows) (now table) r ⌝ }
-    ensures { λ c. ⌜ c ≡ countsOf (now (rows .entry)) r ⌝ }
+// Counts the clauses of AND: one list after the other, and negated each clause with each.
+fn both_counts(left: ClauseCounts, right: ClauseCounts) -> ClauseCounts
+    requires { ⌜ SmallCounts left × SmallCounts right ⌝ }
+    ensures { λ c. ⌜ c ≡ bothCounts left right ⌝ }
 {
-    let s = shape_at(rows, r);
-    match s {
-        Shape::Leaf => single(),
-        Shape::One(_) => single(),
-        Shape::Two(_, _) => single(),
-        Shape::Both(x, y) => {
-            let a = counts_at(table, x);
-            let b = counts_at(table, y);
-            let plain = sum(a.plain, b.plain);
-            let negated = product(a.negated, b.negated);
-            Counts { plain, negated }
-        }
-        Shape::Either(x, y) => {
-            let a = counts_at(table, x);
-            let b = counts_at(table, y);
-            let plain = product(a.plain, b.plain);
-            let negated = sum(a.negated, b.negated);
-            Counts { plain, negated }
-        }
-        Shape::Not(x) => {
-            let a = counts_at(table, x);
-            Counts {
-                plain: a.negated,
-                negated: a.plain,
-            }
-        }
+    ClauseCounts {
+        plain: held_sum(left.plain, right.plain),
+        negated: held_product(left.negated, right.negated),
     }
 }
 
-// The counts of every row up to `last`.
-pub fn count_all(rows: &[u64], table: &mut [u16], last: usize)
-    requires { ⌜ Sound (now rows) last × (2 * last + 1 < length (now table)) ⌝ }
-    ensures { λ _. ⌜ Counted (now (rows .entry)) (now (table .exit)) (last + 1) × (length (now (table .exit)) ≡ length (now (table .entry))) ⌝ }
+// Counts the clauses of OR, the other way round.
+fn either_counts(left: ClauseCounts, right: ClauseCounts) -> ClauseCounts
+    requires { ⌜ SmallCounts left × SmallCounts right ⌝ }
+    ensures { λ c. ⌜ c ≡ eitherCounts left right ⌝ }
 {
-    let mut r = 0;
-    while r <= last {
-        let c = counted(rows, table, r);
-        let at = 2 * r;
-        table[at] = c.plain;
-        table[at + 1] = c.negated;
-        r += 1;
+    ClauseCounts {
+        plain: held_product(left.plain, right.plain),
+        negated: held_sum(left.negated, right.negated),
+    }
+}
+
+// Counts the clauses of NOT.
+fn not_counts(operand: ClauseCounts) -> ClauseCounts
+    ensures { λ c. ⌜ c ≡ notCounts operand ⌝ }
+{
+    ClauseCounts {
+        plain: operand.negated,
+        negated: operand.plain,
+    }
+}
+
+// Counts the clauses of a row, from those of its operands.
+fn clause_counts_of(rows: &[u64], table: &[u16], row: usize) -> ClauseCounts
+    requires { ⌜ Sound (now rows) row × (2 * row ≤ length (now table)) × CountsBelow (now rows) (now table) row ⌝ }
+    ensures { λ c. ⌜ c ≡ clauseCounts (now (rows .entry)) row ⌝ }
+{
+    let shape = shape_at(rows, row);
+    match shape {
+        Shape::Leaf => atom_counts(),
+        Shape::One(_) => atom_counts(),
+        Shape::Two(_, _) => atom_counts(),
+        Shape::Both(left, right) => {
+            both_counts(clause_counts_at(table, left), clause_counts_at(table, right))
+        }
+        Shape::Either(left, right) => {
+            either_counts(clause_counts_at(table, left), clause_counts_at(table, right))
+        }
+        Shape::Not(operand) => not_counts(clause_counts_at(table, operand)),
+    }
+}
+
+// Fills the table with the counts of every row up to the root.
+pub fn fill_clause_counts(rows: &[u64], table: &mut [u16], root: usize)
+    requires { ⌜ Sound (now rows) root × (2 * root + 1 < length (now table)) ⌝ }
+    ensures { λ _. ⌜ CountsBelow (now (rows .entry)) (now (table .exit)) (root + 1) × (length (now (table .exit)) ≡ length (now (table .entry))) ⌝ }
+{
+    let mut row = 0;
+    while row <= root {
+        let counts = clause_counts_of(rows, table, row);
+        let at = 2 * row;
+        table[at] = counts.plain;
+        table[at + 1] = counts.negated;
+        row += 1;
     }
 }

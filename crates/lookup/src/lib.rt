@@ -1,139 +1,149 @@
 // Lookups on a column: which clauses of a predicate are, and the values that they look for.
 //
 // A question names a clause by its number. The clauses of every row are counted in one pass, and from the counts the clause is found without listing
-// the others: its literals are met one after the other, and what they test is gathered.
+// the others: its literals are met one after the other, and make the lookup.
 // docs/FORMAT.md has the rules; specs/ has them as definitions.
-use clause::visit;
+use clause::with_clause;
 use cnf::Size;
-use columns::gather::Gathered;
-use counts::count_all;
+use columns::partial::PartialLookup;
+use counts::fill_clause_counts;
+use limits::ROWS_MAX;
 use predicate::Checked;
 use refusals::Refusal;
 use values::Value;
+use widths::u32_to_usize;
 
 mod clause;
 mod counts;
 
 ghost use mathlib.Core.Path.{_≡_};
 ghost use mathlib.Core.Bool.{false};
-ghost use Prim.Native.Nat.{_*_, _+_, _<_, _≤_};
+ghost use Prim.Native.Nat.{_*_, _+_, _<_};
 ghost use lib.ListN.{length};
-ghost use Rattle.limits.specs.Limits.{rowsMax, clausesMax, literalsMax};
+ghost use Rattle.limits.specs.Limits.{rowsMax};
 ghost use Rattle.predicate.specs.Tree.{treeAt, Sound};
 ghost use Rattle.predicate.specs.Read.{readRows};
-ghost use Rattle.cnf.specs.Clause.{clauses as clausesOf, total};
-ghost use Rattle.lookup.specs.Answer.{asked as askedBy, askedIn, foundOf, LooksUp};
-ghost use Rattle.lookup.specs.Find.{gatheredOf, answerOf, answered as answeredOf};
+ghost use Rattle.cnf.specs.Clause.{clauses as clausesOf};
+ghost use Rattle.lookup.specs.Answer.{lookupOf, lookupAmong, LooksUp, FindsValue};
+ghost use Rattle.lookup.specs.ByNumber.{HasClause, withClause, answerOf, partialAnswer};
 
-// What is asked of a clause: the column and how many values there are, or a refusal and its place.
-pub enum Looked {
-    On(usize, usize),
+// What `lookup` answers: the column and how many values there are, or a refusal and its place.
+pub enum LookedUp {
+    OnColumn(usize, usize),
     Refused(Refusal, usize),
 }
 
-// One of the values, or a refusal and its place.
-pub enum Found {
-    At(Value),
+// What `value_at` answers: the value, or a refusal and its place.
+pub enum FoundValue {
+    Found(Value),
     Refused(Refusal, usize),
 }
 
-// Both at once: the column, how many values there are, and the one that is asked for if there are so many.
-pub enum Answer {
-    On(usize, usize, Value),
+// What both answer from: the column, how many values there are, and the one that is wanted if there are so many.
+pub enum ClauseAnswer {
+    OnColumn(usize, usize, Value),
     Refused(Refusal, usize),
 }
 
 // The most rows for which the small table of counts does: clearing the large one costs more than most predicates.
-const FEW: usize = 64;
+const FEW_ROWS: usize = 64;
 
-// What the literals of a clause test, by way of a table of counts.
-fn gathered_with(rows: &[u64], table: &mut [u16], last: usize, clause: usize, n: usize) -> Gathered
-    requires { ⌜ Sound (now rows) last × (last < rowsMax) × (2 * last + 1 < length (now table)) × (length (clausesOf false (treeAt (now rows) last)) ≤ clausesMax) × (total (clausesOf false (treeAt (now rows) last)) ≤ literalsMax) × (clause < length (clausesOf false (treeAt (now rows) last))) ⌝ }
-    ensures { λ g. ⌜ g ≡ gatheredOf (now (rows .entry)) last false clause n Gathered.Nothing ⌝ }
+// Two places for each row.
+const FEW_COUNTS: usize = 2 * FEW_ROWS;
+
+const ALL_COUNTS: usize = 2 * ROWS_MAX;
+
+// Answers the lookup that a clause makes, by way of a table of counts.
+fn clause_lookup_with(
+    rows: &[u64],
+    table: &mut [u16],
+    root: usize,
+    clause: usize,
+    wanted: usize,
+) -> PartialLookup
+    requires { ⌜ HasClause (now rows) root clause × (2 * root + 1 < length (now table)) ⌝ }
+    ensures { λ p. ⌜ p ≡ withClause (now (rows .entry)) root false clause wanted PartialLookup.Empty ⌝ }
 {
-    count_all(rows, table, last);
-    visit(rows, table, last, false, clause, n, Gathered::Nothing)
+    fill_clause_counts(rows, table, root);
+    with_clause(rows, table, root, false, clause, wanted, PartialLookup::Empty)
 }
 
-// The same, with a table that is large enough: two places for each row.
-fn gathered(rows: &[u64], last: usize, clause: usize, n: usize) -> Gathered
-    requires { ⌜ Sound (now rows) last × (last < rowsMax) × (length (clausesOf false (treeAt (now rows) last)) ≤ clausesMax) × (total (clausesOf false (treeAt (now rows) last)) ≤ literalsMax) × (clause < length (clausesOf false (treeAt (now rows) last))) ⌝ }
-    ensures { λ g. ⌜ g ≡ gatheredOf (now (rows .entry)) last false clause n Gathered.Nothing ⌝ }
+// The same, with a table that is large enough.
+fn clause_lookup(rows: &[u64], root: usize, clause: usize, wanted: usize) -> PartialLookup
+    requires { ⌜ HasClause (now rows) root clause ⌝ }
+    ensures { λ p. ⌜ p ≡ withClause (now (rows .entry)) root false clause wanted PartialLookup.Empty ⌝ }
 {
-    if last < FEW {
-        let mut few = [0u16; 128];
-        gathered_with(rows, &mut few, last, clause, n)
+    if root < FEW_ROWS {
+        let mut few = [0u16; FEW_COUNTS];
+        clause_lookup_with(rows, &mut few, root, clause, wanted)
     } else {
-        let mut all = [0u16; 4096];
-        gathered_with(rows, &mut all, last, clause, n)
+        let mut all = [0u16; ALL_COUNTS];
+        clause_lookup_with(rows, &mut all, root, clause, wanted)
     }
 }
 
-// What was gathered, as an answer.
-fn answered(g: Gathered) -> Answer
-    ensures { λ a. ⌜ a ≡ answeredOf g ⌝ }
+// Answers what the literals of a whole clause make.
+fn partial_answer(partial: PartialLookup) -> ClauseAnswer
+    ensures { λ a. ⌜ a ≡ partialAnswer partial ⌝ }
 {
-    match g {
-        Gathered::Nothing => Answer::Refused(Refusal::NotLookup, 0),
-        Gathered::NotLookup => Answer::Refused(Refusal::NotLookup, 0),
-        Gathered::On(c, so, v) => Answer::On(c, so, v),
+    match partial {
+        PartialLookup::Empty => ClauseAnswer::Refused(Refusal::NotLookup, 0),
+        PartialLookup::NotLookup => ClauseAnswer::Refused(Refusal::NotLookup, 0),
+        PartialLookup::OnColumn(column, many, value) => ClauseAnswer::OnColumn(column, many, value),
     }
 }
 
-// A clause of the tree at row `last`.
-fn asked_at(rows: &[u64], last: usize, clause: usize, n: usize) -> Answer
-    requires { ⌜ Sound (now rows) last × (last < rowsMax) ⌝ }
-    ensures { λ a. ⌜ a ≡ answerOf n (askedIn (clausesOf false (treeAt (now (rows .entry)) last)) clause) ⌝ }
+// Answers of a clause of the tree at row `root`.
+fn lookup_at(rows: &[u64], root: usize, clause: usize, wanted: usize) -> ClauseAnswer
+    requires { ⌜ Sound (now rows) root × (root < rowsMax) ⌝ }
+    ensures { λ a. ⌜ a ≡ answerOf wanted (lookupAmong (clausesOf false (treeAt (now (rows .entry)) root)) clause) ⌝ }
 {
-    let s = cnf::count(rows, last, false);
-    let Size::Is(c, _) = s else {
-        return Answer::Refused(Refusal::TooMany, 0);
+    let size = cnf::count_clauses(rows, root, false);
+    let Size::Is(clauses, _) = size else {
+        return ClauseAnswer::Refused(Refusal::TooMany, 0);
     };
-    let many = c as usize;
+    let many = u32_to_usize(clauses);
     if many <= clause {
-        return Answer::Refused(Refusal::NoSuch, 0);
+        return ClauseAnswer::Refused(Refusal::NoSuch, 0);
     }
-    answered(gathered(rows, last, clause, n))
+    partial_answer(clause_lookup(rows, root, clause, wanted))
 }
 
-// A clause of a predicate.
-fn asked(text: &[u8], rows: &[u64], clause: usize, n: usize) -> Answer
-    ensures { λ a. ⌜ a ≡ answerOf n (askedBy (readRows (now (text .entry)) (now (rows .entry))) clause) ⌝ }
+// Answers of a clause of a predicate.
+fn lookup_of(text: &[u8], rows: &[u64], clause: usize, wanted: usize) -> ClauseAnswer
+    ensures { λ a. ⌜ a ≡ answerOf wanted (lookupOf (readRows (now (text .entry)) (now (rows .entry))) clause) ⌝ }
 {
-    let v = predicate::check(text, rows);
-    match v {
-        Checked::Refused(why, place) => Answer::Refused(why, place),
-        Checked::Good(whole) => {
-            let last = whole - 1;
-            asked_at(rows, last, clause, n)
-        }
+    let checked = predicate::check(text, rows);
+    match checked {
+        Checked::Refused(why, place) => ClauseAnswer::Refused(why, place),
+        Checked::Good(root) => lookup_at(rows, root, clause, wanted),
     }
 }
 
 // Is a clause a lookup? On which column, and with how many values?
-pub fn lookup(text: &[u8], rows: &[u64], clause: usize) -> Looked
+pub fn lookup(text: &[u8], rows: &[u64], clause: usize) -> LookedUp
     ensures { λ v. ⌜ LooksUp (now (text .entry)) (now (rows .entry)) clause v ⌝ }
 {
-    let a = asked(text, rows, clause, 0);
-    match a {
-        Answer::On(column, count, _) => Looked::On(column, count),
-        Answer::Refused(why, place) => Looked::Refused(why, place),
+    let answer = lookup_of(text, rows, clause, 0);
+    match answer {
+        ClauseAnswer::OnColumn(column, many, _) => LookedUp::OnColumn(column, many),
+        ClauseAnswer::Refused(why, place) => LookedUp::Refused(why, place),
     }
 }
 
-// One of the values of a lookup.
-pub fn value_at(text: &[u8], rows: &[u64], clause: usize, n: usize) -> Found
-    ensures { λ v. ⌜ v ≡ foundOf (askedBy (readRows (now (text .entry)) (now (rows .entry))) clause) n ⌝ }
+// Answers one of the values of a lookup, by its number.
+pub fn value_at(text: &[u8], rows: &[u64], clause: usize, wanted: usize) -> FoundValue
+    ensures { λ v. ⌜ FindsValue (now (text .entry)) (now (rows .entry)) clause wanted v ⌝ }
 {
-    let a = asked(text, rows, clause, n);
-    match a {
-        Answer::On(_, count, v) => {
-            if n < count {
-                Found::At(v)
+    let answer = lookup_of(text, rows, clause, wanted);
+    match answer {
+        ClauseAnswer::OnColumn(_, many, value) => {
+            if wanted < many {
+                FoundValue::Found(value)
             } else {
-                Found::Refused(Refusal::NoSuch, 0)
+                FoundValue::Refused(Refusal::NoSuch, 0)
             }
         }
-        Answer::Refused(why, place) => Found::Refused(why, place),
+        ClauseAnswer::Refused(why, place) => FoundValue::Refused(why, place),
     }
 }

@@ -1,4 +1,4 @@
--- What accepted rows are (`Accepted`): every row is good, and the tree is the one at the last row.
+-- What accepted rows are (`Accepted`): every row is good, and the tree is the one at the last row. So the check keeps its promise (`checks`).
 -- Assumes nothing.
 use Prim.Native.Nat.{ℕ, zero, suc, _+_, _*_, _-_, _%_, _<_, _≤_}
 use mathlib.Core.Path.{_≡_, refl, sym, ap, _∙_, subst}
@@ -15,12 +15,14 @@ use Rattle.refusals.specs.declared.Refusal.{Refusal}
 use Rattle.rows.specs.Layout.{width, rowCount, onlyWhole}
 use Rattle.rows.specs.PostOrder.{Subtree, Next}
 use Rattle.predicate.specs.Row.{shapeAt, arityOf}
-use Rattle.predicate.specs.Tree.{Tree, treeAt, firstAt, Falls, Sound}
-use Rattle.predicate.specs.Read.{Reading, one, refused, ended, andThen, readFrom, readRows, checkedOf}
-use Rattle.predicate.specs.Standing.{Below, goodAt}
+use Rattle.predicate.specs.Tree.{Tree, rootOf, treeAt, firstAt, Falls, Sound}
+use Rattle.predicate.specs.Read.{Reading, one, refused, ended, andThen, readFrom, readRows, checkedOf, Rooted, Checks}
+use Rattle.predicate.specs.Check.{SoundBefore, goodAt}
+use Rattle.predicate.specs.declared.Checked.{Checked}
 use Rattle.predicate.specs.declared.Checked.the-variants.{Good, Refused}
+use Rattle.predicate.proofs.Trees.{root-at}
 use Rattle.predicate.proofs.Stacks.{Tiles, step-is}
-use Rattle.predicate.proofs.Reading.{by-tests}
+use Rattle.predicate.proofs.CheckLoop.{by-tests}
 
 pub record Accepted (text l : List ℕ) (t : Tree) : Type 0 where
   pub some : 0 < rowCount l
@@ -73,7 +75,7 @@ module _ (text l : List ℕ) (t : Tree) where
   each zero r stack e p f = let z : r ≡ 0 + r = omega arith in subst Last z (at-end r stack p f)
   each (suc left) r stack e p f = go (λ next i d g. each left (r + 1) next i d g) (goodAt text l r) refl
     where
-      here : Below l r
+      here : SoundBefore l r
       here = record { there = omega arith; falls = p .falls }
 
       more : (q : ℕ) → q < r + 1 → goodAt text l r ≡ true → Dec (q ≡ r) → goodAt text l q ≡ true
@@ -118,14 +120,28 @@ module _ (text l : List ℕ) (t : Tree) where
     pub accepted : Accepted text l t
     accepted = all-tests (ltb textMax (length text) || ltb rowsMax (rowCount l)) (onlyWhole l) refl refl
 
--- ---- what the check's answer says of the reading
+-- ---- what the check's answer says of the rows
 
-pub checked-refused : (n : ℕ) (r : Reading) {why : Refusal} {place : ℕ} → checkedOf n r ≡ Refused why place → r ≡ refused why place
-unfolding checkedOf
-checked-refused n (one t) e = let z : _≡_ {A = ℕ} 0 1 = cc in absurd (omega arith)
-checked-refused n (refused why place) e = cc
+module _ (text l : List ℕ) where
+  -- rows that are read are the tree at its root
+  rooted : (t : Tree) → readRows text l ≡ one t → Rooted text l (rootOf t)
+  rooted t e =
+      let a : Accepted text l t = accepted text l t e in
+      let root : rowCount l - 1 ≡ rootOf t = sym (ap rootOf (a .tree) ∙ root-at l (rowCount l - 1)) in
+      record {
+        reads = e ∙ ap one (a .tree ∙ ap (treeAt l) root);
+        sound = subst (Sound l) root (a .sound);
+        low = omega (arith, a .some, a .small);
+      }
 
-pub checked-good : (n : ℕ) (r : Reading) {whole : ℕ} → checkedOf n r ≡ Good whole → (t : Tree) × (r ≡ one t) × (whole ≡ n)
-unfolding checkedOf
-checked-good n (one t) e = (t, refl, (cc))
-checked-good n (refused why place) e = let z : _≡_ {A = ℕ} 0 1 = cc in absurd (omega arith)
+  pub checks : {v : Checked} → v ≡ checkedOf (readRows text l) → Checks text l v
+  unfolding checkedOf
+  checks {v} e = record { answer = e; good = λ root d. good (readRows text l) root refl (sym e ∙ d); bad = λ why place d. bad (readRows text l) (sym e ∙ d) }
+    where
+      good : (r : Reading) (root : ℕ) → readRows text l ≡ r → checkedOf r ≡ Good root → Rooted text l root
+      good (one t) root f d = let same : rootOf t ≡ root = cc in subst (Rooted text l) same (rooted t f)
+      good (refused why place) root f d = let z : _≡_ {A = ℕ} 0 1 = cc in absurd (omega arith)
+
+      bad : (r : Reading) {why : Refusal} {place : ℕ} → checkedOf r ≡ Refused why place → r ≡ refused why place
+      bad (one t) d = let z : _≡_ {A = ℕ} 0 1 = cc in absurd (omega arith)
+      bad (refused why place) d = cc

@@ -3,7 +3,7 @@ pub mod Classes
 pub mod Trees
 pub mod Shapes
 pub mod Stacks
-pub mod Tests
-pub mod Reading
+pub mod CheckTests
+pub mod CheckLoop
 pub mod Accepted
-pub mod Tables
+pub mod RowsOfTree

@@ -10,12 +10,12 @@ use native.Mathlib.Omega.{arith}
 use lib.Dec.{eqb}
 use borrow.Author.Tests.{eqb-true}
 use Rattle.rows.specs.Layout.{rowAt}
-use Rattle.rows.proofs.Standing.{took, missed}
+use Rattle.rows.proofs.StackedOperands.{took, missed}
 use Rattle.rows.specs.PostOrder.{Subtree, at, off, found, before, directlyBefore, bad, on, push}
 use Rattle.predicate.specs.Row.{classOf, allowedOf, shapeAt, arityOf, operandsOf}
 use Rattle.predicate.specs.Tree.{Tree, nodeOf, treeAt, firstAt, Falls, Sound}
 use Rattle.predicate.specs.Read.{stepAt}
-use Rattle.predicate.specs.Standing.{Below, standsAt, goodAt}
+use Rattle.predicate.specs.Check.{SoundBefore, operandsPrecede, goodAt}
 use Rattle.predicate.specs.declared.Arity.{Arity}
 use Rattle.predicate.specs.declared.Arity.the-variants as arity
 use Rattle.predicate.proofs.Trees.{tree-step, firstBy, first-at, first-le}
@@ -26,7 +26,7 @@ Tiles l next [] = next ≡ 0
 Tiles l next (w ∷ left) = (q : ℕ) × (q + 1 ≡ next) × (w .tree ≡ treeAt l q) × (w .first ≡ firstAt l q) × Tiles l (w .first) left
 
 -- a row before row r
-pub sound-of : {l : List ℕ} {r q : ℕ} → Below l r → q < r → Sound l q
+pub sound-of : {l : List ℕ} {r q : ℕ} → SoundBefore l r → q < r → Sound l q
 sound-of s h = record { there = let t = s .there in omega arith; falls = λ p k. s .falls p (omega arith) }
 
 -- what the operands a of row r are, where they stand (true), or not (false)
@@ -38,11 +38,11 @@ Stood l r a stack true =
     × Tiles l (firstBy l r a) left
 Stood l r a stack false = directlyBefore (map at (operandsOf a)) r stack ≡ off
 
-one-stands : (l : List ℕ) (r x : ℕ) (stack : List (Subtree Tree)) (b : Bool) → eqb (x + 1) r ≡ b → Tiles l r stack → Stood l r (arity.One x) stack b
+one-precedes : (l : List ℕ) (r x : ℕ) (stack : List (Subtree Tree)) (b : Bool) → eqb (x + 1) r ≡ b → Tiles l r stack → Stood l r (arity.One x) stack b
 unfolding directlyBefore operandsOf before
-one-stands l r x [] true e t = absurd (omega (arith, eqb-true (x + 1) r e))
-one-stands l r x [] false e t = refl
-one-stands l r x (w ∷ left) true e t =
+one-precedes l r x [] true e t = absurd (omega (arith, eqb-true (x + 1) r e))
+one-precedes l r x [] false e t = refl
+one-precedes l r x (w ∷ left) true e t =
     let n : x + 1 ≡ r = eqb-true (x + 1) r e in
     let q : t .0 ≡ x = omega (arith, t .1) in (
       left,
@@ -50,21 +50,21 @@ one-stands l r x (w ∷ left) true e t =
       omega arith,
       subst (λ (f : ℕ). Tiles l f left) (t .3 ∙ ap (firstAt l) q) (t .4),
     )
-one-stands l r x (w ∷ left) false e t = missed x r [] w left e
+one-precedes l r x (w ∷ left) false e t = missed x r [] w left e
 
-two-stands : (l : List ℕ) (r x y : ℕ) (stack : List (Subtree Tree)) (b c : Bool) → eqb (y + 1) r ≡ b → eqb (x + 1) (firstAt l y) ≡ c → Below l r → Tiles l r stack
+two-precede : (l : List ℕ) (r x y : ℕ) (stack : List (Subtree Tree)) (b c : Bool) → eqb (y + 1) r ≡ b → eqb (x + 1) (firstAt l y) ≡ c → SoundBefore l r → Tiles l r stack
     → Stood l r (arity.Two x y) stack (b && c)
 unfolding directlyBefore operandsOf before
-two-stands l r x y [] true true e d s t = absurd (omega (arith, eqb-true (y + 1) r e))
-two-stands l r x y [] true false e d s t = refl
-two-stands l r x y [] false c e d s t = refl
-two-stands l r x y (w ∷ []) true true e d s t =
+two-precede l r x y [] true true e d s t = absurd (omega (arith, eqb-true (y + 1) r e))
+two-precede l r x y [] true false e d s t = refl
+two-precede l r x y [] false c e d s t = refl
+two-precede l r x y (w ∷ []) true true e d s t =
     let q : t .0 ≡ y = omega (arith, t .1, eqb-true (y + 1) r e) in
     let z : firstAt l y ≡ 0 = sym (t .3 ∙ ap (firstAt l) q) ∙ t .4 in
     absurd (omega (arith, eqb-true (x + 1) (firstAt l y) d))
-two-stands l r x y (w ∷ []) true false e d s t = ap (before (at x)) (took y r [] w [] e)
-two-stands l r x y (w ∷ []) false c e d s t = ap (before (at x)) (missed y r [] w [] e)
-two-stands l r x y (w ∷ v ∷ left) true true e d s t =
+two-precede l r x y (w ∷ []) true false e d s t = ap (before (at x)) (took y r [] w [] e)
+two-precede l r x y (w ∷ []) false c e d s t = ap (before (at x)) (missed y r [] w [] e)
+two-precede l r x y (w ∷ v ∷ left) true true e d s t =
     let n : y + 1 ≡ r = eqb-true (y + 1) r e in
     let q : t .0 ≡ y = omega (arith, t .1) in
     let f : w .first ≡ firstAt l y = t .3 ∙ ap (firstAt l) q in
@@ -80,17 +80,17 @@ two-stands l r x y (w ∷ v ∷ left) true true e d s t =
       (omega arith, omega arith),
       subst (λ (i : ℕ). Tiles l i left) (t .4 .3 ∙ ap (firstAt l) p) (t .4 .4),
     )
-two-stands l r x y (w ∷ v ∷ left) true false e d s t =
+two-precede l r x y (w ∷ v ∷ left) true false e d s t =
     let q : t .0 ≡ y = omega (arith, t .1, eqb-true (y + 1) r e) in
     let f : w .first ≡ firstAt l y = t .3 ∙ ap (firstAt l) q in
     ap (before (at x)) (took y r [] w (v ∷ left) e) ∙ missed x (w .first) (w .tree ∷ []) v left (ap (eqb (x + 1)) f ∙ d)
-two-stands l r x y (w ∷ v ∷ left) false c e d s t = ap (before (at x)) (missed y r [] w (v ∷ left) e)
+two-precede l r x y (w ∷ v ∷ left) false c e d s t = ap (before (at x)) (missed y r [] w (v ∷ left) e)
 
-stand : (l : List ℕ) (r : ℕ) (a : Arity) (stack : List (Subtree Tree)) → Below l r → Tiles l r stack → Stood l r a stack (standsAt l r a)
-unfolding standsAt directlyBefore operandsOf
+stand : (l : List ℕ) (r : ℕ) (a : Arity) (stack : List (Subtree Tree)) → SoundBefore l r → Tiles l r stack → Stood l r a stack (operandsPrecede l r a)
+unfolding operandsPrecede directlyBefore operandsOf
 stand l r arity.Nil stack s t = (stack, refl, tt, t)
-stand l r (arity.One x) stack s t = one-stands l r x stack (eqb (x + 1) r) refl t
-stand l r (arity.Two x y) stack s t = two-stands l r x y stack (eqb (y + 1) r) (eqb (x + 1) (firstAt l y)) refl refl s t
+stand l r (arity.One x) stack s t = one-precedes l r x stack (eqb (x + 1) r) refl t
+stand l r (arity.Two x y) stack s t = two-precede l r x y stack (eqb (y + 1) r) (eqb (x + 1) (firstAt l y)) refl refl s t
 
 -- ---- a row's step
 
@@ -99,7 +99,7 @@ abbrev Stepped : List ℕ → List ℕ → ℕ → List (Subtree Tree) → Bool 
 Stepped text l r stack true = (next : List (Subtree Tree)) × (stepAt text l r stack ≡ on next) × Sound l r × Tiles l (r + 1) next
 Stepped text l r stack false = stepAt text l r stack ≡ bad
 
-module _ (text l : List ℕ) (r : ℕ) (stack : List (Subtree Tree)) (s : Below l r) where
+module _ (text l : List ℕ) (r : ℕ) (stack : List (Subtree Tree)) (s : SoundBefore l r) where
   -- the node that row r makes
   make : List Tree → Tree
   make = nodeOf (shapeAt l r) r (rowAt l r)
@@ -111,7 +111,7 @@ module _ (text l : List ℕ) (r : ℕ) (stack : List (Subtree Tree)) (s : Below 
       go q h (yes e) = subst (λ (i : ℕ). Falls (arityOf (shapeAt l i)) i) (sym e) f
       go q h (no n) = s .falls q (omega arith)
 
-  stepped : (b c : Bool) → allowedOf text (classOf (rowAt l r .kind)) (rowAt l r .x) (rowAt l r .y) ≡ b → standsAt l r (arityOf (shapeAt l r)) ≡ c
+  stepped : (b c : Bool) → allowedOf text (classOf (rowAt l r .kind)) (rowAt l r .x) (rowAt l r .y) ≡ b → operandsPrecede l r (arityOf (shapeAt l r)) ≡ c
       → Tiles l r stack → Stepped text l r stack (b && c)
   unfolding stepAt push make
   stepped b c e d t = go b c e (subst (Stood l r (arityOf (shapeAt l r)) stack) d (stand l r (arityOf (shapeAt l r)) stack s t))
@@ -133,4 +133,4 @@ module _ (text l : List ℕ) (r : ℕ) (stack : List (Subtree Tree)) (s : Below 
 
   pub step-is : {b : Bool} → goodAt text l r ≡ b → Tiles l r stack → Stepped text l r stack b
   unfolding goodAt
-  step-is e t = subst (Stepped text l r stack) e (stepped (allowedOf text (classOf (rowAt l r .kind)) (rowAt l r .x) (rowAt l r .y)) (standsAt l r (arityOf (shapeAt l r))) refl refl t)
+  step-is e t = subst (Stepped text l r stack) e (stepped (allowedOf text (classOf (rowAt l r .kind)) (rowAt l r .x) (rowAt l r .y)) (operandsPrecede l r (arityOf (shapeAt l r))) refl refl t)

@@ -3,4 +3,4 @@ pub mod Kind
 pub mod Row
 pub mod Tree
 pub mod Read
-pub mod Standing
+pub mod Check

@@ -1,5 +1,6 @@
 -- Which rows are a predicate (FORMAT §6), and why others are refused (FORMAT §11).
-use Prim.Native.Nat.{ℕ, zero, suc, _+_, _-_}
+use Prim.Native.Nat.{ℕ, zero, suc, _+_, _-_, _<_}
+use mathlib.Core.Path.{_≡_}
 use mathlib.Core.Bool.{true, false, _||_}
 use mathlib.Core.List.{List, [], _∷_, map}
 use lib.ListN.{length}
@@ -10,7 +11,7 @@ use Rattle.refusals.specs.declared.Refusal.the-variants.{TooLong, BadTree}
 use Rattle.rows.specs.Layout.{rowCount, onlyWhole, rowAt}
 use Rattle.rows.specs.PostOrder.{Subtree, at, directlyBefore, Next, bad, on, push}
 use Rattle.predicate.specs.Row.{classOf, allowedOf, shapeAt, arityOf, operandsOf}
-use Rattle.predicate.specs.Tree.{Tree, nodeOf}
+use Rattle.predicate.specs.Tree.{Tree, rootOf, nodeOf, treeAt, Sound}
 use Rattle.predicate.specs.declared.Checked.{Checked}
 use Rattle.predicate.specs.declared.Checked.the-variants.{Good, Refused}
 
@@ -55,7 +56,19 @@ readRows text l =
           ]
     ]
 
--- what the check answers of n rows
-unfoldable pub checkedOf : ℕ → Reading → Checked
-checkedOf n (one t) = Good n
-checkedOf n (refused why place) = Refused why place
+-- what the check answers: the root's row, or the refusal
+unfoldable pub checkedOf : Reading → Checked
+checkedOf (one t) = Good (rootOf t)
+checkedOf (refused why place) = Refused why place
+
+-- the rows are a predicate: the tree at row `root`, where the operands of each row stand before it
+pub record Rooted (text rows : List ℕ) (root : ℕ) : Type 0 where
+  pub reads : readRows text rows ≡ one (treeAt rows root)
+  pub sound : Sound rows root
+  pub low : root < rowsMax
+
+-- the whole promise of the check. v is what the rows are read as; a root is the root of the tree that they are; a refusal is the reading's own
+pub record Checks (text rows : List ℕ) (v : Checked) : Type 0 where
+  pub answer : v ≡ checkedOf (readRows text rows)
+  pub good : (root : ℕ) → v ≡ Good root → Rooted text rows root
+  pub bad : (why : Refusal) (place : ℕ) → v ≡ Refused why place → readRows text rows ≡ refused why place

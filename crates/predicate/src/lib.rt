@@ -8,6 +8,7 @@ use limits::ROWS_MAX;
 use limits::TEXT_MAX;
 use refusals::Refusal;
 use rows::Row;
+use widths::u64_to_usize;
 
 pub mod kind;
 
@@ -19,8 +20,8 @@ ghost use lib.Dec.{leb};
 ghost use Rattle.rows.specs.Layout.{rowCount};
 ghost use Rattle.predicate.specs.Row.{classOf, allowedOf, shapeOf, shapeAt, arityOf};
 ghost use Rattle.predicate.specs.Tree.{firstAt, Sound};
-ghost use Rattle.predicate.specs.Standing.{Below, standsAt, goodAt};
-ghost use Rattle.predicate.specs.Read.{readRows, readFrom, checkedOf};
+ghost use Rattle.predicate.specs.Check.{SoundBefore, operandsPrecede, goodAt};
+ghost use Rattle.predicate.specs.Read.{readFrom, checkedOf, Checks};
 
 // What a kind asks of its row.
 pub enum Class {
@@ -53,12 +54,6 @@ pub enum Arity {
     Nil,
     One(usize),
     Two(usize, usize),
-}
-
-fn index(x: u64) -> usize
-    ensures { λ r. ⌜ r ≡ x ⌝ }
-{
-    x as usize
 }
 
 fn class_of(kind: u64) -> Class
@@ -94,7 +89,7 @@ fn class_of(kind: u64) -> Class
 }
 
 // Does a string lie in the text? No sum is formed that could wrap.
-fn spans(text: &[u8], start: u64, size: u64) -> bool
+fn lies_within(text: &[u8], start: u64, size: u64) -> bool
     ensures { λ r. ⌜ r ≡ leb (start + size) (length (now (text .entry))) ⌝ }
 {
     let all = text.len() as u64;
@@ -114,7 +109,7 @@ fn allowed(text: &[u8], class: Class, x: u64, y: u64) -> bool
         Class::Null => if x == 0 { y == 0 } else { false },
         Class::Boolean => if x <= 1 { y == 0 } else { false },
         Class::Number => y == 0,
-        Class::Text => spans(text, x, y),
+        Class::Text => lies_within(text, x, y),
         Class::Column => if x <= COLUMN_MAX { y == 0 } else { false },
         Class::And => true,
         Class::Or => true,
@@ -128,8 +123,8 @@ fn allowed(text: &[u8], class: Class, x: u64, y: u64) -> bool
 fn shape_of(class: Class, row: Row) -> Shape
     ensures { λ r. ⌜ r ≡ shapeOf class row ⌝ }
 {
-    let x = index(row.x);
-    let y = index(row.y);
+    let x = u64_to_usize(row.x);
+    let y = u64_to_usize(row.y);
     match class {
         Class::Unknown => Shape::Leaf,
         Class::Null => Shape::Leaf,
@@ -193,9 +188,9 @@ fn first_of(rows: &[u64], r: usize) -> usize
 }
 
 // Do the whole subtrees of its operands stand directly before row r? An operand is held against r before one is added to it, so that no sum wraps.
-fn stands(rows: &[u64], r: usize, a: Arity) -> bool
-    requires { ⌜ Below (now rows) r ⌝ }
-    ensures { λ b. ⌜ b ≡ standsAt (now (rows .entry)) r a ⌝ }
+fn operands_precede(rows: &[u64], r: usize, a: Arity) -> bool
+    requires { ⌜ SoundBefore (now rows) r ⌝ }
+    ensures { λ b. ⌜ b ≡ operandsPrecede (now (rows .entry)) r a ⌝ }
 {
     match a {
         Arity::Nil => true,
@@ -214,19 +209,19 @@ fn stands(rows: &[u64], r: usize, a: Arity) -> bool
 
 // Is row r one that may stand after the rows before it?
 fn good_at(text: &[u8], rows: &[u64], r: usize) -> bool
-    requires { ⌜ Below (now rows) r ⌝ }
+    requires { ⌜ SoundBefore (now rows) r ⌝ }
     ensures { λ b. ⌜ b ≡ goodAt (now (text .entry)) (now (rows .entry)) r ⌝ }
 {
     let row = rows::row_at(rows, r);
     let kind = row.kind;
     let class = class_of(kind);
     if allowed(text, class, row.x, row.y) {
-        return stands(rows, r, operands(shape_of(class, row)));
+        return operands_precede(rows, r, operands(shape_of(class, row)));
     }
     false
 }
 
-// What the check finds: how many rows the predicate has, or a refusal and its place.
+// What the check finds: the root's row, which is the last, or a refusal and its place.
 pub enum Checked {
     Good(usize),
     Refused(Refusal, usize),
@@ -234,7 +229,7 @@ pub enum Checked {
 
 // Each row in turn, up to the first that is not good; then that there is one root.
 fn check_rows(text: &[u8], rows: &[u64]) -> Checked
-    ensures { λ v. ⌜ v ≡ checkedOf (rowCount (now (rows .entry))) (readFrom (now (text .entry)) (now (rows .entry)) (rowCount (now (rows .entry))) 0 []) ⌝ }
+    ensures { λ v. ⌜ v ≡ checkedOf (readFrom (now (text .entry)) (now (rows .entry)) (rowCount (now (rows .entry))) 0 []) ⌝ }
 {
     let whole = rows::count(rows);
     let mut r = 0;
@@ -250,15 +245,15 @@ fn check_rows(text: &[u8], rows: &[u64]) -> Checked
     let last = whole - 1;
     let first = first_of(rows, last);
     if first == 0 {
-        Checked::Good(whole)
+        Checked::Good(last)
     } else {
         Checked::Refused(Refusal::BadTree, last)
     }
 }
 
-// Are the rows a predicate over the text?
+// Are the rows a predicate over the text? Then they are the tree at the row that is answered.
 pub fn check(text: &[u8], rows: &[u64]) -> Checked
-    ensures { λ v. ⌜ v ≡ checkedOf (rowCount (now (rows .entry))) (readRows (now (text .entry)) (now (rows .entry))) ⌝ }
+    ensures { λ v. ⌜ Checks (now (text .entry)) (now (rows .entry)) v ⌝ }
 {
     let whole = rows::count(rows);
     if TEXT_MAX < text.len() {

@@ -2,4 +2,4 @@
 pub mod Laws
 pub mod Numbers
 pub mod Parts
-pub mod Standing
+pub mod StackedOperands

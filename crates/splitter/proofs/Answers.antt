@@ -1,5 +1,5 @@
--- The answers of `list_many`, `list_one` and `split`: each refusal in its case (`gives-many`, `gives-short`, `one-short`, `promise-refused`), and the written
--- lists otherwise (`gives-all`, `one-all`, `promise-listed`), which mean the predicate (`split-means`).
+-- The answers of `list_many`, `list_one` and `split`: each refusal in its case (`gives-many`, `gives-short`, `one-short`, `splits-refused`), and the written
+-- lists otherwise (`gives-all`, `one-all`, `splits-listed`), which mean the predicate (`split-means`).
 -- Assumes nothing.
 use Prim.Native.Nat.{ℕ, _+_, _*_, _<_, _≤_}
 use mathlib.Core.Path.{_≡_, refl, sym, ap, ap₂, _∙_, subst}
@@ -15,18 +15,18 @@ use Rattle.refusals.specs.declared.Refusal.{Refusal}
 use Rattle.refusals.specs.declared.Refusal.the-variants.{TooMany, NoList}
 use Rattle.predicate.specs.Tree.{Tree, rootOf}
 use Rattle.predicate.specs.Read.{Reading, one, refused, readRows}
-use Rattle.cnf.specs.Clause.{Literal, literal, clauses, total, bit, code, numbers, endsFrom}
+use Rattle.cnf.specs.Clause.{Literal, literal, clauses, total, bit, literalNumber, literalNumbers, endsFrom}
 use Rattle.cnf.specs.Kleene.{readBack, Means}
-use Rattle.cnf.specs.Size.{capped, sizeOf}
-use Rattle.listing.specs.Chain.{Written}
-use Rattle.splitter.specs.Split.{Split, listOf, splitOf, Gives, Promise}
+use Rattle.cnf.specs.Size.{withinLimits, sizeOf}
+use Rattle.listing.specs.Listing.{Written}
+use Rattle.splitter.specs.Split.{Split, listOf, splitOf, splitNumber, splitFirst, splitSecond, Gives, Splits}
 use Rattle.cnf.specs.declared.Size.{Size}
-use Rattle.cnf.specs.declared.Size.the-variants.{Many, Is}
+use Rattle.cnf.specs.declared.Size.the-variants as size
 use Rattle.splitter.specs.declared.Listed.{Listed}
 use Rattle.splitter.specs.declared.Listed.the-variants.{Clauses, Refused}
 use Rattle.cnf.proofs.Sizes.{size-is, size-many}
-use Rattle.listing.proofs.Writing.{length-ends}
-use Rattle.cnf.proofs.Meaning.{codes, read-back, clauses-mean}
+use Rattle.listing.proofs.WrittenClauses.{length-ends}
+use Rattle.cnf.proofs.Meaning.{numbered, read-back, clauses-mean}
 
 -- ---- a clause list
 
@@ -43,7 +43,7 @@ module _ (cs : List (List Literal)) (a d : List ℕ) where
     | false ↦
         elim c [
           | true ↦ record { answer = Refused NoList 0; literals = a; ends = d }
-          | false ↦ record { answer = Clauses (length cs) (total cs); literals = numbers cs ++ drop (total cs) a; ends = endsFrom 0 cs ++ drop (length cs) d }
+          | false ↦ record { answer = Clauses (length cs) (total cs); literals = literalNumbers cs ++ drop (total cs) a; ends = endsFrom 0 cs ++ drop (length cs) d }
         ]
   ]
   unfolding listOf many short
@@ -52,11 +52,11 @@ module _ (cs : List (List Literal)) (a d : List ℕ) where
     | false ↦
         elim q [
           | true ↦ record { answer = Refused NoList 0; literals = a; ends = d }
-          | false ↦ record { answer = Clauses (length cs) (total cs); literals = numbers cs ++ drop (total cs) a; ends = endsFrom 0 cs ++ drop (length cs) d }
+          | false ↦ record { answer = Clauses (length cs) (total cs); literals = literalNumbers cs ++ drop (total cs) a; ends = endsFrom 0 cs ++ drop (length cs) d }
         ]
   ]) e f
 
-  pub gives-many : {s : Size} → s ≡ sizeOf cs → s ≡ Many → Gives (listOf cs a d) (Refused TooMany 0) a d
+  pub gives-many : {s : Size} → s ≡ sizeOf cs → s ≡ size.TooMany → Gives (listOf cs a d) (Refused TooMany 0) a d
   unfolding many
   gives-many e f =
       subst (λ (s : Split). Gives s (Refused TooMany 0) a d)
@@ -68,7 +68,7 @@ module _ (cs : List (List Literal)) (a d : List ℕ) where
       go false true g h = refl
       go false false g h = absurd (size-many cs (sym e ∙ f) (ltb-false clausesMax (length cs) g) (ltb-false literalsMax (total cs) h))
 
-  module _ {s : Size} {c m : ℕ} (e : s ≡ sizeOf cs) (f : s ≡ Is c m) where
+  module _ {s : Size} {c m : ℕ} (e : s ≡ sizeOf cs) (f : s ≡ size.Is c m) where
     pub sizes : (c ≡ length cs) × (m ≡ total cs) × (length cs ≤ clausesMax) × (total cs ≤ literalsMax)
     sizes = size-is cs (sym e ∙ f)
 
@@ -108,8 +108,8 @@ module _ (g : Bool) (t : Tree) (a d : List ℕ) where
   abbrev alone : List (List Literal)
   alone = (literal g t ∷ []) ∷ []
 
-  size-one : Is 1 1 ≡ sizeOf alone
-  unfolding sizeOf capped
+  size-one : size.Is 1 1 ≡ sizeOf alone
+  unfolding sizeOf withinLimits
   size-one = refl
 
   pub one-short : length a ≡ 0 → Gives (listOf alone a d) (Refused NoList 0) a d
@@ -119,7 +119,7 @@ module _ (g : Bool) (t : Tree) (a d : List ℕ) where
   one-shorter some none = gives-shorter alone a d size-one refl (omega arith) (omega arith)
 
   pub one-all : {x : ℕ} → x ≡ 2 * rootOf t + bit g → (length a ≡ 0 → ⊥) → (length d ≡ 0 → ⊥) → Gives (listOf alone a d) (Clauses 1 1) (set a 0 x) (set d 0 1)
-  unfolding code
+  unfolding literalNumber
   one-all {x} is some more =
       gives-all alone a d size-one refl refl refl (omega arith) (omega arith)
       (record { literals = set-first a x some ∙ ap (λ (n : ℕ). n ∷ drop 1 a) is; ends = set-first d 1 more })
@@ -128,7 +128,7 @@ module _ (g : Bool) (t : Tree) (a d : List ℕ) where
 
 -- an answer of clauses is that of the last case
 listed-is : (cs : List (List Literal)) (a d : List ℕ) {c m : ℕ} → Clauses c m ≡ listOf cs a d .answer
-    → (c ≡ length cs) × (listOf cs a d .literals ≡ numbers cs ++ drop (total cs) a) × (listOf cs a d .ends ≡ endsFrom 0 cs ++ drop (length cs) d)
+    → (c ≡ length cs) × (listOf cs a d .literals ≡ literalNumbers cs ++ drop (total cs) a) × (listOf cs a d .ends ≡ endsFrom 0 cs ++ drop (length cs) d)
 listed-is cs a d {c} {m} e = go (many cs a d) (short cs a d) (by-tests cs a d (many cs a d) (short cs a d) refl refl)
   where
     go : (p q : Bool) → listOf cs a d ≡ elim p [
@@ -136,9 +136,9 @@ listed-is cs a d {c} {m} e = go (many cs a d) (short cs a d) (by-tests cs a d (m
       | false ↦
           elim q [
             | true ↦ record { answer = Refused NoList 0; literals = a; ends = d }
-            | false ↦ record { answer = Clauses (length cs) (total cs); literals = numbers cs ++ drop (total cs) a; ends = endsFrom 0 cs ++ drop (length cs) d }
+            | false ↦ record { answer = Clauses (length cs) (total cs); literals = literalNumbers cs ++ drop (total cs) a; ends = endsFrom 0 cs ++ drop (length cs) d }
           ]
-    ] → (c ≡ length cs) × (listOf cs a d .literals ≡ numbers cs ++ drop (total cs) a) × (listOf cs a d .ends ≡ endsFrom 0 cs ++ drop (length cs) d)
+    ] → (c ≡ length cs) × (listOf cs a d .literals ≡ literalNumbers cs ++ drop (total cs) a) × (listOf cs a d .ends ≡ endsFrom 0 cs ++ drop (length cs) d)
     go true q f = let g : Clauses c m ≡ Refused TooMany 0 = e ∙ ap (λ (s : Split). s .answer) f in let z : _≡_ {A = ℕ} 0 1 = cc in absurd (omega arith)
     go false true f = let g : Clauses c m ≡ Refused NoList 0 = e ∙ ap (λ (s : Split). s .answer) f in let z : _≡_ {A = ℕ} 0 1 = cc in absurd (omega arith)
     go false false f =
@@ -146,28 +146,40 @@ listed-is cs a d {c} {m} e = go (many cs a d) (short cs a d) (by-tests cs a d (m
         ((cc), ap (λ (s : Split). s .literals) f, ap (λ (s : Split). s .ends) f)
 
 module _ (text rows a d : List ℕ) where
-  pub promise-refused : {why : Refusal} {place : ℕ} → readRows text rows ≡ refused why place → Promise text rows a d (Refused why place) a d
-  unfolding splitOf
-  promise-refused {why} {place} e = record {
-    gives = subst (λ (r : Reading). Gives (splitOf r a d) (Refused why place) a d) (sym e) (record { answer = refl; literals = refl; ends = refl });
-    means = λ t c m f g. let z : _≡_ {A = ℕ} 0 1 = cc in absurd (omega arith);
+  -- what is given, and what it means where clauses are answered, are the whole promise
+  splits : {v : Listed} {b x : List ℕ} → Gives (splitOf (readRows text rows) a d) v b x
+      → ((t : Tree) (c m : ℕ) → readRows text rows ≡ one t → v ≡ Clauses c m → Means t (readBack b 0 (take c x)))
+      → Splits text rows a d v b x
+  splits p means = record {
+    gives = p;
+    number = ap splitNumber (p .answer);
+    first = ap splitFirst (p .answer);
+    second = ap splitSecond (p .answer);
+    means = means;
   }
 
-  pub promise-listed : (t : Tree) {v : Listed} {b x : List ℕ} → readRows text rows ≡ one t → Gives (listOf (clauses false t) a d) v b x → Promise text rows a d v b x
+  pub splits-refused : {why : Refusal} {place : ℕ} → readRows text rows ≡ refused why place → Splits text rows a d (Refused why place) a d
   unfolding splitOf
-  promise-listed t {v} {b} {x} e p = record {
-    gives = subst (λ (r : Reading). Gives (splitOf r a d) v b x) (sym e) p;
-    means = λ t' c m f g. subst (λ (s : Tree). Means s (readBack b 0 (take c x))) (same t' f) (clauses-mean t (back c m g));
-  }
+  splits-refused {why} {place} e =
+      splits
+      (subst (λ (r : Reading). Gives (splitOf r a d) (Refused why place) a d) (sym e) (record { answer = refl; literals = refl; ends = refl }))
+      (λ t c m f g. let z : _≡_ {A = ℕ} 0 1 = cc in absurd (omega arith))
+
+  pub splits-listed : (t : Tree) {v : Listed} {b x : List ℕ} → readRows text rows ≡ one t → Gives (listOf (clauses false t) a d) v b x → Splits text rows a d v b x
+  unfolding splitOf
+  splits-listed t {v} {b} {x} e p =
+      splits
+      (subst (λ (r : Reading). Gives (splitOf r a d) v b x) (sym e) p)
+      (λ t' c m f g. subst (λ (s : Tree). Means s (readBack b 0 (take c x))) (same t' f) (clauses-mean t (back c m g)))
     where
       same : (t' : Tree) → readRows text rows ≡ one t' → t ≡ t'
       same t' f = let g : one t ≡ one t' = sym e ∙ f in (cc)
 
-      back : (c m : ℕ) → v ≡ Clauses c m → readBack b 0 (take c x) ≡ codes (clauses false t)
+      back : (c m : ℕ) → v ≡ Clauses c m → readBack b 0 (take c x) ≡ numbered (clauses false t)
       back c m g =
           let z = listed-is (clauses false t) a d (sym g ∙ p .answer) in
           ap₂ (λ (l : List ℕ) (k : List ℕ). readBack l 0 (take c k)) (p .literals ∙ z .1) (p .ends ∙ z .2)
-          ∙ ap (readBack (numbers (clauses false t) ++ drop (total (clauses false t)) a) 0)
+          ∙ ap (readBack (literalNumbers (clauses false t) ++ drop (total (clauses false t)) a) 0)
           (take-at (endsFrom 0 (clauses false t)) (drop (length (clauses false t)) d) c (length-ends 0 (clauses false t) ∙ sym (z .0)))
           ∙ read-back (drop (total (clauses false t)) a) (clauses false t)
 
@@ -177,4 +189,4 @@ pub split-means : (text rows a d : List ℕ) (t : Tree) (c m : ℕ) → readRows
 unfolding splitOf
 split-means text rows a d t c m e f =
     subst (λ (r : Reading). Means t (readBack (splitOf r a d .literals) 0 (take c (splitOf r a d .ends)))) (sym e)
-    (promise-listed text rows a d t e (record { answer = refl; literals = refl; ends = refl }) .means t c m e (ap (λ (r : Reading). splitOf r a d .answer) (sym e) ∙ f))
+    (splits-listed text rows a d t e (record { answer = refl; literals = refl; ends = refl }) .means t c m e (ap (λ (r : Reading). splitOf r a d .answer) (sym e) ∙ f))

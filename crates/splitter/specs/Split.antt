@@ -6,10 +6,11 @@ use mathlib.Core.List.{List, _++_}
 use lib.ListN.{length, take, drop}
 use lib.Dec.{ltb}
 use Rattle.limits.specs.Limits.{clausesMax, literalsMax}
+use Rattle.refusals.specs.Refusal.{refusalNumber}
 use Rattle.refusals.specs.declared.Refusal.the-variants.{TooMany, NoList}
 use Rattle.predicate.specs.Tree.{Tree}
 use Rattle.predicate.specs.Read.{Reading, one, refused, readRows}
-use Rattle.cnf.specs.Clause.{Literal, clauses, total, numbers, endsFrom}
+use Rattle.cnf.specs.Clause.{Literal, clauses, total, literalNumbers, endsFrom}
 use Rattle.cnf.specs.Kleene.{readBack, Means}
 use Rattle.splitter.specs.declared.Listed.{Listed}
 use Rattle.splitter.specs.declared.Listed.the-variants.{Clauses, Refused}
@@ -31,7 +32,7 @@ listOf cs a d =
             | false ↦
                 record {
                   answer = Clauses (length cs) (total cs);
-                  literals = numbers cs ++ drop (total cs) a;
+                  literals = literalNumbers cs ++ drop (total cs) a;
                   ends = endsFrom 0 cs ++ drop (length cs) d;
                 }
           ]
@@ -48,7 +49,30 @@ pub record Gives (s : Split) (v : Listed) (b e : List ℕ) : Type 0 where
   pub literals : b ≡ s .literals
   pub ends : e ≡ s .ends
 
--- the whole promise. What is answered and left is `splitOf` of the rows; and where clauses are answered, the numbers in the lists mean the predicate
-pub record Promise (text rows a d : List ℕ) (v : Listed) (b e : List ℕ) : Type 0 where
+-- ---- the answer as numbers, for a C caller (FORMAT §11.8)
+
+-- what is returned: 0, or the refusal's number
+unfoldable pub splitNumber : Listed → ℕ
+splitNumber (Clauses c m) = 0
+splitNumber (Refused why place) = refusalNumber why
+
+-- what is handed out first: how many clauses there are, or the refusal's place
+unfoldable pub splitFirst : Listed → ℕ
+splitFirst (Clauses c m) = c
+splitFirst (Refused why place) = place
+
+-- and second: how many literals there are, or 0
+unfoldable pub splitSecond : Listed → ℕ
+splitSecond (Clauses c m) = m
+splitSecond (Refused why place) = 0
+
+-- ---- the promise
+
+-- the whole promise. What is answered and left is `splitOf` of the rows, and the numbers for a C caller are those of that answer; and where clauses are
+-- answered, the numbers in the lists mean the predicate
+pub record Splits (text rows a d : List ℕ) (v : Listed) (b e : List ℕ) : Type 0 where
   pub gives : Gives (splitOf (readRows text rows) a d) v b e
+  pub number : splitNumber v ≡ splitNumber (splitOf (readRows text rows) a d .answer)
+  pub first : splitFirst v ≡ splitFirst (splitOf (readRows text rows) a d .answer)
+  pub second : splitSecond v ≡ splitSecond (splitOf (readRows text rows) a d .answer)
   pub means : (t : Tree) (c m : ℕ) → readRows text rows ≡ one t → v ≡ Clauses c m → Means t (readBack b 0 (take c e))

@@ -1,4 +1,5 @@
--- Laws of values and their patterns.
-pub mod Values
-pub mod Patterns
-pub mod Constants
+-- Laws of values, of their patterns and of their constants.
+pub mod NanPatterns
+pub mod SignedPatterns
+pub mod ConstantKinds
+pub mod ConstantsReadBack

@@ -1,2 +1,2 @@
--- The values of constants.
+-- Values and constants.
 pub mod Value

@@ -1,11 +1,13 @@
--- The value that a constant's row stands for (FORMAT §6.2 and §9.5).
+-- The value that a constant stands for, and the constant that stands for a value (FORMAT §6.2 and §9.5).
 use Prim.Native.Nat.{ℕ, _-_, _^_}
 use mathlib.Core.Bool.{Bool, true, false}
+use mathlib.Core.List.{List, [], _∷_}
 use lib.Dec.{eqb, ltb}
 use lib.IntN.{ℤ, pos, negsuc}
 use lib.Ieee.{ofBits, toBits, binary64, isNan}
 use Rattle.predicate.specs.Kind as kind
-use Rattle.rows.specs.declared.Row.{Row}
+use Rattle.rows.specs.Label.{Label}
+use Rattle.values.specs.declared.Constant.{Constant}
 use Rattle.values.specs.declared.Value.{Value}
 use Rattle.values.specs.declared.Value.the-variants.{Null, Boolean, Integer, Float, String}
 
@@ -34,21 +36,29 @@ valueBy k x y =
           ]
     ]
 
-unfoldable pub valueOf : Row → Value
-valueOf w = valueBy (w .kind) (w .x) (w .y)
+unfoldable pub valueOf : Constant → Value
+valueOf c = valueBy (c .kind) (c .x) (c .y)
 
--- the row of a value, as a constant's: every NaN has the one pattern
-unfoldable pub rowOf : Value → Row
-rowOf Null = record { kind = kind.null; x = 0; y = 0 }
-rowOf (Boolean b) = record { kind = kind.boolean; x = elim b [ true ↦ 1 | false ↦ 0 ]; y = 0 }
-rowOf (Integer n) = record { kind = kind.integer; x = patternOf n; y = 0 }
-rowOf (Float f) = record { kind = kind.float; x = toBits binary64 f; y = 0 }
-rowOf (String start length) = record { kind = kind.string; x = start; y = length }
+-- the constant that stands for a value: every NaN has the one pattern
+unfoldable pub constantOf : Value → Constant
+constantOf Null = record { kind = kind.null; x = 0; y = 0 }
+constantOf (Boolean b) = record { kind = kind.boolean; x = elim b [ true ↦ 1 | false ↦ 0 ]; y = 0 }
+constantOf (Integer n) = record { kind = kind.integer; x = patternOf n; y = 0 }
+constantOf (Float f) = record { kind = kind.float; x = toBits binary64 f; y = 0 }
+constantOf (String start length) = record { kind = kind.string; x = start; y = length }
+
+-- the numbers of a constant, in order
+abbrev pub constantNumbers : Constant → List ℕ
+constantNumbers c = c .kind ∷ c .x ∷ c .y ∷ []
+
+-- the constant that a leaf of a predicate is
+abbrev pub constantOfLabel : Label → Constant
+constantOfLabel l = record { kind = l .kind; x = l .x; y = l .y }
 
 -- no cell equals it: NULL or NaN
-unfoldable pub undefined : Value → Bool
-undefined Null = true
-undefined (Boolean b) = false
-undefined (Integer n) = false
-undefined (Float x) = isNan x
-undefined (String start length) = false
+unfoldable pub isUndefined : Value → Bool
+isUndefined Null = true
+isUndefined (Boolean b) = false
+isUndefined (Integer n) = false
+isUndefined (Float x) = isNan x
+isUndefined (String start length) = false

@@ -2,26 +2,38 @@
 -- Assumes nothing.
 use mathlib.Core.Path.{sym, _∙_}
 use Rattle.predicate.specs.Read.{readRows}
-use Rattle.lookup.specs.Answer.{asked}
-use Rattle.lookup.proofs.Answering.{looked-on, looked-refused, looks-up}
+use Rattle.lookup.specs.Answer.{lookupOf}
+use Rattle.lookup.proofs.AnswerOfClause.{looked-up-on, looked-up-refused}
+use Rattle.lookup.proofs.LookupMeans.{looks-up}
 use borrow.Author.Needs.{needs}
 use Rattle.lookup.proofs.lookup.Statement.{statement}
 use Rattle.lookup.proofs.lookup.Tie as tie
 
-asked-requires : tie.Need-asked-requires
-asked-requires c κs = search needs
+lookup-of-requires : tie.Need-lookup-of-requires
+lookup-of-requires c κs = search needs
 
-enum-known-a : tie.Need-enum-known-a
-enum-known-a c = search needs
+enum-known-answer : tie.Need-enum-known-answer
+enum-known-answer c = search needs
 
-enum-known-a-2 : tie.Need-enum-known-a-2
-enum-known-a-2 c = search needs
+enum-known-answer-2 : tie.Need-enum-known-answer-2
+enum-known-answer-2 c = search needs
 
 returns : tie.Need-returns
-returns c = looks-up _ _ _ (looked-on 0 (asked (readRows (c .before .before .before .before .before .before .args .text .now) (c .before .before .before .before .before .before .args .rows .now)) (c .before .before .before .before .before .before .args .clause)) (sym (c .before .before .before .asked .ensures) ∙ c .before .a .given .1))
+returns c =
+    let args = c .before .before .before .before .before .before .args in
+    let lookup-of = c .before .before .before .lookup-of in
+    looks-up _ _ _
+    (looked-up-on 0 (lookupOf (readRows (args .text .now) (args .rows .now)) (args .clause))
+    (sym (lookup-of .ensures) ∙ c .before .answer .given .1))
 
 returns-2 : tie.Need-returns-2
-returns-2 c = looks-up _ _ _ (looked-refused 0 (asked (readRows (c .before .before .before .before .before .before .args .text .now) (c .before .before .before .before .before .before .args .rows .now)) (c .before .before .before .before .before .before .args .clause)) (sym (c .before .before .before .asked .ensures) ∙ c .before .a2 .given .1))
+returns-2 c =
+    let args = c .before .before .before .before .before .before .args in
+    let lookup-of = c .before .before .before .lookup-of in
+    looks-up _ _ _
+    (looked-up-refused 0 (lookupOf (readRows (args .text .now) (args .rows .now)) (args .clause))
+    (sym (lookup-of .ensures) ∙ c .before .answer2 .given .1))
 
 pub lookup-spec : {M : Type 1} → statement M
-lookup-spec = tie.close (tie.spec asked-requires enum-known-a enum-known-a-2 returns returns-2)
+lookup-spec =
+    tie.close (tie.spec lookup-of-requires enum-known-answer enum-known-answer-2 returns returns-2)

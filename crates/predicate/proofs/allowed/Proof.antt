@@ -30,7 +30,7 @@ allowed-spec =
     (λ c. simp (c .before .enum-told3 .given .1, le-leb _ _ (c .if2 .taken)))
     (λ c. simp (c .before .enum-told3 .given .1, lt-leb _ _ (c .if2 .left)))
     (λ c. simp (c .enum-told4 .given .1))
-    (λ c. simp (c .before .enum-told5 .given .1) (c .spans .ensures))
+    (λ c. simp (c .before .enum-told5 .given .1) (c .lies-within .ensures))
     (λ c. simp (c .before .enum-told6 .given .1, le-leb _ _ (c .if3 .taken)))
     (λ c. simp (c .before .enum-told6 .given .1, lt-leb _ _ (c .if3 .left)))
     (λ c. simp (c .enum-told7 .given .1))

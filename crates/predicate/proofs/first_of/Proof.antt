@@ -27,25 +27,53 @@ enum-told : tie.Need-enum-told Inv-loop μ-loop
 enum-told c = search needs
 
 returns : tie.Need-returns Inv-loop μ-loop
-returns c = sym (first-named (c .before .before .before .before .loop .inv .0) (c .before .before .before .shape-at .ensures) (c .before .before .operands .ensures) (c .enum-told .given .1)) ∙ c .before .before .before .before .loop .inv .1
+returns c =
+    let loop = c .before .before .before .before .loop in
+    let shape-at = c .before .before .before .shape-at in
+    let operands = c .before .before .operands in
+    sym (first-named (loop .inv .0) (shape-at .ensures) (operands .ensures) (c .enum-told .given .1)) ∙ loop .inv .1
 
 enum-known-a : tie.Need-enum-known-a Inv-loop μ-loop
 enum-known-a c = search needs
 
 loop-less : tie.Need-loop-less Inv-loop μ-loop
-loop-less c = falls-named (c .before .before .before .before .before .loop .inv .0) (c .before .before .before .before .shape-at .ensures) (c .before .before .before .operands .ensures) (c .before .a .given .1)
+loop-less c =
+    let loop = c .before .before .before .before .before .loop in
+    let shape-at = c .before .before .before .before .shape-at in
+    let operands = c .before .before .before .operands in
+    falls-named (loop .inv .0) (shape-at .ensures) (operands .ensures) (c .before .a .given .1)
 
 loop-again : tie.Need-loop-again Inv-loop μ-loop
-loop-again c = let h = falls-named (c .before .before .before .before .before .loop .inv .0) (c .before .before .before .before .shape-at .ensures) (c .before .before .before .operands .ensures) (c .before .a .given .1) in (sound-below (c .before .a .given .0 .0) (c .before .before .before .before .before .loop .inv .0) (omega (arith, h)), sym (first-named (c .before .before .before .before .before .loop .inv .0) (c .before .before .before .before .shape-at .ensures) (c .before .before .before .operands .ensures) (c .before .a .given .1)) ∙ c .before .before .before .before .before .loop .inv .1)
+loop-again c =
+    let loop = c .before .before .before .before .before .loop in
+    let shape-at = c .before .before .before .before .shape-at in
+    let operands = c .before .before .before .operands in
+    let a = c .before .a in
+    let h = falls-named (loop .inv .0) (shape-at .ensures) (operands .ensures) (a .given .1) in (
+      sound-below (a .given .0 .0) (loop .inv .0) (omega (arith, h)),
+      sym (first-named (loop .inv .0) (shape-at .ensures) (operands .ensures) (a .given .1)) ∙ loop .inv .1,
+    )
 
 enum-known-a-2 : tie.Need-enum-known-a-2 Inv-loop μ-loop
 enum-known-a-2 c = search needs
 
 loop-less-2 : tie.Need-loop-less-2 Inv-loop μ-loop
-loop-less-2 c = falls-named (c .before .before .before .before .before .loop .inv .0) (c .before .before .before .before .shape-at .ensures) (c .before .before .before .operands .ensures) (c .before .a2 .given .1) .0
+loop-less-2 c =
+    let loop = c .before .before .before .before .before .loop in
+    let shape-at = c .before .before .before .before .shape-at in
+    let operands = c .before .before .before .operands in
+    falls-named (loop .inv .0) (shape-at .ensures) (operands .ensures) (c .before .a2 .given .1) .0
 
 loop-again-2 : tie.Need-loop-again-2 Inv-loop μ-loop
-loop-again-2 c = let h = falls-named (c .before .before .before .before .before .loop .inv .0) (c .before .before .before .before .shape-at .ensures) (c .before .before .before .operands .ensures) (c .before .a2 .given .1) in (sound-below (c .before .a2 .given .0 .0) (c .before .before .before .before .before .loop .inv .0) (omega (arith, h .0)), sym (first-named (c .before .before .before .before .before .loop .inv .0) (c .before .before .before .before .shape-at .ensures) (c .before .before .before .operands .ensures) (c .before .a2 .given .1)) ∙ c .before .before .before .before .before .loop .inv .1)
+loop-again-2 c =
+    let loop = c .before .before .before .before .before .loop in
+    let shape-at = c .before .before .before .before .shape-at in
+    let operands = c .before .before .before .operands in
+    let a2 = c .before .a2 in
+    let h = falls-named (loop .inv .0) (shape-at .ensures) (operands .ensures) (a2 .given .1) in (
+      sound-below (a2 .given .0 .0) (loop .inv .0) (omega (arith, h .0)),
+      sym (first-named (loop .inv .0) (shape-at .ensures) (operands .ensures) (a2 .given .1)) ∙ loop .inv .1,
+    )
 
 pub first-of-spec : {M : Type 1} → statement M
 first-of-spec =

@@ -1,6 +1,6 @@
 -- `good_at` meets its contract: what it reads of the row is what `goodAt` reads.
 -- Assumes nothing.
-use Rattle.predicate.proofs.Tests.{good-on, good-off}
+use Rattle.predicate.proofs.CheckTests.{good-on, good-off}
 use borrow.Author.Needs.{needs}
 use Rattle.predicate.proofs.good_at.Statement.{statement}
 use Rattle.predicate.proofs.good_at.Tie as tie
@@ -20,14 +20,24 @@ shape-of-requires c κs = search needs
 operands-requires : tie.Need-operands-requires
 operands-requires c κs = search needs
 
-stands-requires : tie.Need-stands-requires
-stands-requires c κs = search needs
+operands-precede-requires : tie.Need-operands-precede-requires
+operands-precede-requires c κs = search needs
 
 returns : tie.Need-returns
-returns c = good-on _ _ _ (c .before .before .before .before .before .before .row-at .ensures) (c .before .before .before .before .before .class-of .ensures) (c .before .before .before .before .allowed .ensures) (c .before .before .before .if1 .taken) (c .before .before .shape-of .ensures) (c .before .operands .ensures) (c .stands .ensures)
+returns c =
+    let row-at = c .before .before .before .before .before .before .row-at in
+    let class-of = c .before .before .before .before .before .class-of in
+    let allowed = c .before .before .before .before .allowed in
+    let if1 = c .before .before .before .if1 in
+    let shape-of = c .before .before .shape-of in
+    good-on _ _ _ (row-at .ensures) (class-of .ensures) (allowed .ensures) (if1 .taken) (shape-of .ensures) (c .before .operands .ensures)
+    (c .operands-precede .ensures)
 
 returns-2 : tie.Need-returns-2
-returns-2 c = good-off _ _ _ (c .before .before .before .row-at .ensures) (c .before .before .class-of .ensures) (c .before .allowed .ensures) (c .if1 .left)
+returns-2 c =
+    let row-at = c .before .before .before .row-at in
+    let class-of = c .before .before .class-of in
+    good-off _ _ _ (row-at .ensures) (class-of .ensures) (c .before .allowed .ensures) (c .if1 .left)
 
 pub good-at-spec : {M : Type 1} → statement M
 good-at-spec =
@@ -38,6 +48,6 @@ good-at-spec =
     allowed-requires
     shape-of-requires
     operands-requires
-    stands-requires
+    operands-precede-requires
     returns
     returns-2)

@@ -18,7 +18,10 @@ shape-of-requires c κs = search needs
 
 returns : tie.Need-returns
 unfolding shapeAt
-returns c = c .shape-of .ensures ∙ ap₂ shapeOf (c .before .class-of .ensures ∙ ap (λ (w : Row). classOf (w .kind)) (c .before .before .row-at .ensures)) (c .before .before .row-at .ensures)
+returns c =
+    let row-at = c .before .before .row-at in
+    c .shape-of .ensures
+    ∙ ap₂ shapeOf (c .before .class-of .ensures ∙ ap (λ (w : Row). classOf (w .kind)) (row-at .ensures)) (row-at .ensures)
 
 pub shape-at-spec : {M : Type 1} → statement M
 shape-at-spec = tie.close (tie.spec row-at-requires class-of-requires shape-of-requires returns)

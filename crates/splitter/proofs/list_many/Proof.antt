@@ -9,32 +9,74 @@ use borrow.Author.Needs.{needs}
 use Rattle.splitter.proofs.list_many.Statement.{statement}
 use Rattle.splitter.proofs.list_many.Tie as tie
 
-count-requires : tie.Need-count-requires
-count-requires c κs = c .before .before .before .pre .0
+count-clauses-requires : tie.Need-count-clauses-requires
+count-clauses-requires c κs =
+    let pre = c .before .before .before .pre in
+    pre .0
 
-enum-known-s : tie.Need-enum-known-s
-enum-known-s c = search needs
+enum-known-size : tie.Need-enum-known-size
+enum-known-size c = search needs
 
 enum-told : tie.Need-enum-told
 enum-told c = search needs
 
 returns : tie.Need-returns
-returns c = gives-many (clauses false (treeAt (c .before .before .before .before .before .before .args .rows .now) (c .before .before .before .before .before .before .args .r))) (c .before .before .before .before .before .before .args .literals .now) (c .before .before .before .before .before .before .args .ends .now) (c .before .before .count .ensures) (c .enum-told .given .1)
+returns c =
+    let args = c .before .before .before .before .before .before .args in
+    let count-clauses = c .before .before .count-clauses in
+    gives-many (clauses false (treeAt (args .rows .now) (args .r))) (args .literals .now) (args .ends .now) (count-clauses .ensures)
+    (c .enum-told .given .1)
 
-number-requires : tie.Need-number-requires
-number-requires c κs = search needs
+u32-to-usize-requires : tie.Need-u32-to-usize-requires
+u32-to-usize-requires c κs = search needs
 
-number-requires-2 : tie.Need-number-requires-2
-number-requires-2 c κs = search needs
+u32-to-usize-requires-2 : tie.Need-u32-to-usize-requires-2
+u32-to-usize-requires-2 c κs = search needs
 
 returns-2 : tie.Need-returns-2
-returns-2 c = let z = sizes (clauses false (treeAt (c .before .before .before .before .before .before .before .before .before .before .args .rows .now) (c .before .before .before .before .before .before .before .before .before .before .args .r))) (c .before .before .before .before .before .before .before .before .before .before .args .literals .now) (c .before .before .before .before .before .before .before .before .before .before .args .ends .now) (c .before .before .before .before .before .before .count .ensures) (c .before .before .before .before .s .given .1) in gives-short (clauses false (treeAt (c .before .before .before .before .before .before .before .before .before .before .args .rows .now) (c .before .before .before .before .before .before .before .before .before .before .args .r))) (c .before .before .before .before .before .before .before .before .before .before .args .literals .now) (c .before .before .before .before .before .before .before .before .before .before .args .ends .now) (c .before .before .before .before .before .before .count .ensures) (c .before .before .before .before .s .given .1) (omega (arith, z .1, c .before .number2 .ensures, c .if1 .taken))
+returns-2 c =
+    let args = c .before .before .before .before .before .before .before .before .before .before .args in
+    let count-clauses = c .before .before .before .before .before .before .count-clauses in
+    let size = c .before .before .before .before .size in
+    let z = sizes (clauses false (treeAt (args .rows .now) (args .r))) (args .literals .now) (args .ends .now) (count-clauses .ensures)
+    (size .given .1) in
+    gives-short (clauses false (treeAt (args .rows .now) (args .r))) (args .literals .now) (args .ends .now) (count-clauses .ensures)
+    (size .given .1) (omega (arith, z .1, c .before .u32-to-usize2 .ensures, c .if1 .taken))
 
 returns-3 : tie.Need-returns-3
-returns-3 c = let z = sizes (clauses false (treeAt (c .before .before .before .before .before .before .before .before .before .before .before .args .rows .now) (c .before .before .before .before .before .before .before .before .before .before .before .args .r))) (c .before .before .before .before .before .before .before .before .before .before .before .args .literals .now) (c .before .before .before .before .before .before .before .before .before .before .before .args .ends .now) (c .before .before .before .before .before .before .before .count .ensures) (c .before .before .before .before .before .s .given .1) in gives-shorter (clauses false (treeAt (c .before .before .before .before .before .before .before .before .before .before .before .args .rows .now) (c .before .before .before .before .before .before .before .before .before .before .before .args .r))) (c .before .before .before .before .before .before .before .before .before .before .before .args .literals .now) (c .before .before .before .before .before .before .before .before .before .before .before .args .ends .now) (c .before .before .before .before .before .before .before .count .ensures) (c .before .before .before .before .before .s .given .1) (omega (arith, z .1, c .before .before .number2 .ensures, c .before .if1 .left)) (omega (arith, z .0, c .before .before .before .number .ensures, c .if2 .taken))
+returns-3 c =
+    let args = c .before .before .before .before .before .before .before .before .before .before .before .args in
+    let count-clauses = c .before .before .before .before .before .before .before .count-clauses in
+    let size = c .before .before .before .before .before .size in
+    let u32-to-usize = c .before .before .before .u32-to-usize in
+    let u32-to-usize2 = c .before .before .u32-to-usize2 in
+    let z = sizes (clauses false (treeAt (args .rows .now) (args .r))) (args .literals .now) (args .ends .now) (count-clauses .ensures)
+    (size .given .1) in
+    gives-shorter (clauses false (treeAt (args .rows .now) (args .r))) (args .literals .now) (args .ends .now) (count-clauses .ensures)
+    (size .given .1) (omega (arith, z .1, u32-to-usize2 .ensures, c .before .if1 .left))
+    (omega (arith, z .0, u32-to-usize .ensures, c .if2 .taken))
 
-list-requires : tie.Need-list-requires
-list-requires c κs = let z = sizes (clauses false (treeAt (c .before .before .before .before .before .before .before .before .before .before .before .before .before .args .rows .now) (c .before .before .before .before .before .before .before .before .before .before .before .before .before .args .r))) (c .before .before .before .before .before .before .before .before .before .before .before .before .before .args .literals .now) (c .before .before .before .before .before .before .before .before .before .before .before .before .before .args .ends .now) (c .before .before .before .before .before .before .before .before .before .count .ensures) (c .before .before .before .before .before .before .before .s .given .1) in (c .before .before .before .before .before .before .before .before .before .before .before .before .before .pre .0, c .before .before .before .before .before .before .before .before .before .before .before .before .before .pre .1, omega (arith, z .0, c .before .before .before .before .before .number .ensures), omega (arith, z .1, c .before .before .before .before .number2 .ensures), (omega (arith, z .0, z .2, c .before .before .before .before .before .number .ensures), omega (arith, z .1, z .3, c .before .before .before .before .number2 .ensures)), (c .before .before .before .if1 .left, c .before .before .if2 .left))
+write-counted-requires : tie.Need-write-counted-requires
+write-counted-requires c κs =
+    let at-count-clauses = c .before .before .before .before .before .before .before .before .before in
+    let start = at-count-clauses .before .before .before .before in
+    let args = start .args in
+    let pre = start .pre in
+    let count-clauses = at-count-clauses .count-clauses in
+    let size = c .before .before .before .before .before .before .before .size in
+    let u32-to-usize = c .before .before .before .before .before .u32-to-usize in
+    let u32-to-usize2 = c .before .before .before .before .u32-to-usize2 in
+    let if1 = c .before .before .before .if1 in
+    let if2 = c .before .before .if2 in
+    let z = sizes (clauses false (treeAt (args .rows .now) (args .r))) (args .literals .now) (args .ends .now) (count-clauses .ensures)
+    (size .given .1) in (
+      pre .0,
+      pre .1,
+      omega (arith, z .0, u32-to-usize .ensures),
+      omega (arith, z .1, u32-to-usize2 .ensures),
+      (omega (arith, z .0, z .2, u32-to-usize .ensures), omega (arith, z .1, z .3, u32-to-usize2 .ensures)),
+      (if1 .left, if2 .left),
+    )
 
 same-length : tie.Need-same-length
 same-length c = search needs
@@ -43,21 +85,35 @@ same-length-2 : tie.Need-same-length-2
 same-length-2 c = search needs
 
 returns-4 : tie.Need-returns-4
-returns-4 c = let z = sizes (clauses false (treeAt (c .before .before .before .before .before .before .before .before .before .before .before .before .before .before .before .before .before .before .args .rows .now) (c .before .before .before .before .before .before .before .before .before .before .before .before .before .before .before .before .before .before .args .r))) (c .before .before .before .before .before .before .before .before .before .before .before .before .before .before .before .before .before .before .args .literals .now) (c .before .before .before .before .before .before .before .before .before .before .before .before .before .before .before .before .before .before .args .ends .now) (c .before .before .before .before .before .before .before .before .before .before .before .before .before .before .count .ensures) (c .before .before .before .before .before .before .before .before .before .before .before .before .s .given .1) in gives-all (clauses false (treeAt (c .before .before .before .before .before .before .before .before .before .before .before .before .before .before .before .before .before .before .args .rows .now) (c .before .before .before .before .before .before .before .before .before .before .before .before .before .before .before .before .before .before .args .r))) (c .before .before .before .before .before .before .before .before .before .before .before .before .before .before .before .before .before .before .args .literals .now) (c .before .before .before .before .before .before .before .before .before .before .before .before .before .before .before .before .before .before .args .ends .now) (c .before .before .before .before .before .before .before .before .before .before .before .before .before .before .count .ensures) (c .before .before .before .before .before .before .before .before .before .before .before .before .s .given .1) (c .before .before .before .before .before .before .before .before .before .before .number .ensures) (c .before .before .before .before .before .before .before .before .before .number2 .ensures) (omega (arith, z .1, c .before .before .before .before .before .before .before .before .before .number2 .ensures, c .before .before .before .before .before .before .before .before .if1 .left)) (omega (arith, z .0, c .before .before .before .before .before .before .before .before .before .before .number .ensures, c .before .before .before .before .before .before .before .if2 .left)) (c .before .before .before .before .list .ensures)
+returns-4 c =
+    let at-size = c .before .before .before .before .before .before .before .before .before .before .before .before in
+    let args = at-size .before .before .before .before .before .before .args in
+    let count-clauses = at-size .before .before .count-clauses in
+    let size = at-size .size in
+    let u32-to-usize = c .before .before .before .before .before .before .before .before .before .before .u32-to-usize in
+    let u32-to-usize2 = c .before .before .before .before .before .before .before .before .before .u32-to-usize2 in
+    let if1 = c .before .before .before .before .before .before .before .before .if1 in
+    let if2 = c .before .before .before .before .before .before .before .if2 in
+    let write-counted = c .before .before .before .before .write-counted in
+    let z = sizes (clauses false (treeAt (args .rows .now) (args .r))) (args .literals .now) (args .ends .now) (count-clauses .ensures)
+    (size .given .1) in
+    gives-all (clauses false (treeAt (args .rows .now) (args .r))) (args .literals .now) (args .ends .now) (count-clauses .ensures)
+    (size .given .1) (u32-to-usize .ensures) (u32-to-usize2 .ensures) (omega (arith, z .1, u32-to-usize2 .ensures, if1 .left))
+    (omega (arith, z .0, u32-to-usize .ensures, if2 .left)) (write-counted .ensures)
 
 pub list-many-spec : {M : Type 1} → statement M
 list-many-spec =
     tie.close
     (tie.spec
-    count-requires
-    enum-known-s
+    count-clauses-requires
+    enum-known-size
     enum-told
     returns
-    number-requires
-    number-requires-2
+    u32-to-usize-requires
+    u32-to-usize-requires-2
     returns-2
     returns-3
-    list-requires
+    write-counted-requires
     same-length
     same-length-2
     returns-4)

@@ -14,14 +14,14 @@ returns c = λ t e. one-short _ t _ _ (c .if1 .taken)
 returns-2 : tie.Need-returns-2
 returns-2 c = λ t e. one-shorter _ t _ _ (c .before .if1 .left) (c .if2 .taken)
 
-code-requires : tie.Need-code-requires
-code-requires c κs = search needs
+literal-number-requires : tie.Need-literal-number-requires
+literal-number-requires c κs = search needs
 
-wide-requires : tie.Need-wide-requires
-wide-requires c κs = search needs
+u16-to-usize-requires : tie.Need-u16-to-usize-requires
+u16-to-usize-requires c κs = search needs
 
-narrow-requires : tie.Need-narrow-requires
-narrow-requires c κs = search needs
+usize-to-u32-requires : tie.Need-usize-to-u32-requires
+usize-to-u32-requires c κs = search needs
 
 slice-write-literals : tie.Need-slice-write-literals
 slice-write-literals c = search needs
@@ -36,7 +36,17 @@ same-length-2 : tie.Need-same-length-2
 same-length-2 c = search needs
 
 returns-3 : tie.Need-returns-3
-returns-3 c = λ t e. one-all _ t _ _ (c .narrow .ensures ∙ c .before .wide .ensures ∙ c .before .before .code .ensures ∙ ap (λ (q : ℕ). 2 * q + bit (c .before .before .before .before .before .before .before .args .neg)) (sym e)) (c .before .before .before .before .if1 .left) (c .before .before .before .if2 .left)
+returns-3 c =
+    let args = c .before .before .before .before .before .before .before .args in
+    let if1 = c .before .before .before .before .if1 in
+    let if2 = c .before .before .before .if2 in
+    let literal-number = c .before .before .literal-number in
+    λ t e.
+    one-all _ t _ _
+    (c .usize-to-u32 .ensures
+    ∙ c .before .u16-to-usize .ensures
+    ∙ literal-number .ensures
+    ∙ ap (λ (q : ℕ). 2 * q + bit (args .negated)) (sym e)) (if1 .left) (if2 .left)
 
 pub list-one-spec : {M : Type 1} → statement M
 list-one-spec =
@@ -44,9 +54,9 @@ list-one-spec =
     (tie.spec
     returns
     returns-2
-    code-requires
-    wide-requires
-    narrow-requires
+    literal-number-requires
+    u16-to-usize-requires
+    usize-to-u32-requires
     slice-write-literals
     slice-write-ends
     same-length

@@ -4,19 +4,23 @@ use mathlib.Core.Bool.{false}
 use native.Mathlib.Omega.{arith}
 use Rattle.predicate.proofs.Trees.{root-at}
 use Rattle.splitter.proofs.Answers.{listed-as}
-use Rattle.cnf.proofs.Rows.{part-is}
+use Rattle.cnf.proofs.Sources.{source-is}
 use borrow.Author.Needs.{needs}
 use Rattle.splitter.proofs.list_tree.Statement.{statement}
 use Rattle.splitter.proofs.list_tree.Tie as tie
 
-part-at-requires : tie.Need-part-at-requires
-part-at-requires c κs = search needs
+past-nots-requires : tie.Need-past-nots-requires
+past-nots-requires c κs = search needs
 
 enum-known-q : tie.Need-enum-known-q
 enum-known-q c = search needs
 
 list-one-requires : tie.Need-list-one-requires
-list-one-requires c κs = omega (arith, part-is false (c .before .before .before .before .before .before .before .before .before .pre .0) (c .before .before .before .before .before .part-at .ensures) (c .before .before .before .q .given .1) .0, c .before .before .before .before .before .before .before .before .before .pre .1)
+list-one-requires c κs =
+    let pre = c .before .before .before .before .before .before .before .before .before .pre in
+    let past-nots = c .before .before .before .before .before .past-nots in
+    let q = c .before .before .before .q in
+    omega (arith, source-is false (pre .0) (past-nots .ensures) (q .given .1) .0, pre .1)
 
 enum-told : tie.Need-enum-told
 enum-told c = search needs
@@ -31,7 +35,13 @@ same-length-2 : tie.Need-same-length-2
 same-length-2 c = search needs
 
 returns : tie.Need-returns
-returns c = listed-as _ _ (part-is false (c .before .before .before .before .before .before .before .before .before .before .before .before .before .before .pre .0) (c .before .before .before .before .before .before .before .before .before .before .part-at .ensures) (c .before .before .before .before .before .before .before .before .q .given .1) .1) (c .before .before .before .before .list-one .ensures _ (root-at _ _))
+returns c =
+    let at-past-nots = c .before .before .before .before .before .before .before .before .before .before in
+    let pre = at-past-nots .before .before .before .before .pre in
+    let past-nots = at-past-nots .past-nots in
+    let q = c .before .before .before .before .before .before .before .before .q in
+    let list-one = c .before .before .before .before .list-one in
+    listed-as _ _ (source-is false (pre .0) (past-nots .ensures) (q .given .1) .1) (list-one .ensures _ (root-at _ _))
 
 same-length-3 : tie.Need-same-length-3
 same-length-3 c = search needs
@@ -46,7 +56,7 @@ pub list-tree-spec : {M : Type 1} → statement M
 list-tree-spec =
     tie.close
     (tie.spec
-    part-at-requires
+    past-nots-requires
     enum-known-q
     list-one-requires
     enum-told

@@ -1,16 +1,7 @@
--- `split` meets its contract: rows that the check takes are a tree, the one at the last row, whose clauses are listed.
+-- `split` meets its contract: rows that the check takes are the tree at their root, whose clauses are listed.
 -- Assumes nothing.
-use Prim.Native.Nat.{ℕ, _-_}
-use mathlib.Core.Path.{sym, ap, _∙_, subst}
-use mathlib.Core.Bool.{false}
-use native.Mathlib.Omega.{arith}
-use Rattle.rows.specs.Layout.{rowCount}
-use Rattle.predicate.specs.Tree.{Tree, treeAt, Sound}
-use Rattle.predicate.specs.Read.{readRows}
-use Rattle.predicate.proofs.Accepted.{accepted, checked-refused, checked-good}
-use Rattle.cnf.specs.Clause.{clauses}
-use Rattle.splitter.specs.Split.{listOf, Gives}
-use Rattle.splitter.proofs.Answers.{promise-refused, promise-listed}
+use Rattle.predicate.specs.Tree.{treeAt}
+use Rattle.splitter.proofs.Answers.{splits-refused, splits-listed}
 use borrow.Author.Needs.{needs}
 use Rattle.splitter.proofs.split.Statement.{statement}
 use Rattle.splitter.proofs.split.Tie as tie
@@ -18,20 +9,24 @@ use Rattle.splitter.proofs.split.Tie as tie
 check-requires : tie.Need-check-requires
 check-requires c κs = search needs
 
-enum-known-v : tie.Need-enum-known-v
-enum-known-v c = search needs
+enum-known-why : tie.Need-enum-known-why
+enum-known-why c = search needs
 
-enum-known-v-2 : tie.Need-enum-known-v-2
-enum-known-v-2 c = search needs
-
-sub-last : tie.Need-sub-last
-sub-last c = let z = checked-good (rowCount (c .before .before .before .before .before .before .before .before .args .rows .now)) (readRows (c .before .before .before .before .before .before .before .before .args .text .now) (c .before .before .before .before .before .before .before .before .args .rows .now)) (sym (c .before .before .before .check .ensures) ∙ c .before .v2 .given .1) in omega (arith, z .2, accepted (c .before .before .before .before .before .before .before .before .args .text .now) (c .before .before .before .before .before .before .before .before .args .rows .now) (z .0) (z .1) .some)
+enum-known-root : tie.Need-enum-known-root
+enum-known-root c = search needs
 
 list-tree-requires : tie.Need-list-tree-requires
-list-tree-requires c κs = let z = checked-good (rowCount (c .before .before .before .before .before .before .before .before .before .before .args .rows .now)) (readRows (c .before .before .before .before .before .before .before .before .before .before .args .text .now) (c .before .before .before .before .before .before .before .before .before .before .args .rows .now)) (sym (c .before .before .before .before .before .check .ensures) ∙ c .before .before .before .v2 .given .1) in let y = accepted (c .before .before .before .before .before .before .before .before .before .before .args .text .now) (c .before .before .before .before .before .before .before .before .before .before .args .rows .now) (z .0) (z .1) in (subst (Sound (c .before .before .before .before .before .before .before .before .before .before .args .rows .now)) (ap (λ (n : ℕ). n - 1) (sym (z .2))) (y .sound), omega (arith, z .2, y .some, y .small))
+list-tree-requires c κs =
+    let check = c .before .before .before .before .before .check in
+    let root = c .before .before .before .root in
+    let z = check .ensures .good _ (root .given .1) in (z .sound, z .low)
 
 returns : tie.Need-returns
-returns c = promise-refused (c .before .before .before .before .before .before .before .before .args .text .now) (c .before .before .before .before .before .before .before .before .args .rows .now) (c .before .before .before .before .before .before .before .before .args .literals .now) (c .before .before .before .before .before .before .before .before .args .ends .now) (checked-refused (rowCount (c .before .before .before .before .before .before .before .before .args .rows .now)) (readRows (c .before .before .before .before .before .before .before .before .args .text .now) (c .before .before .before .before .before .before .before .before .args .rows .now)) (sym (c .before .before .before .check .ensures) ∙ c .before .v .given .1))
+returns c =
+    let args = c .before .before .before .before .before .before .before .before .args in
+    let check = c .before .before .before .check in
+    splits-refused (args .text .now) (args .rows .now) (args .literals .now) (args .ends .now)
+    (check .ensures .bad _ _ (c .before .why .given .1))
 
 same-length : tie.Need-same-length
 same-length c = search needs
@@ -40,16 +35,22 @@ same-length-2 : tie.Need-same-length-2
 same-length-2 c = search needs
 
 returns-2 : tie.Need-returns-2
-returns-2 c = let z = checked-good (rowCount (c .before .before .before .before .before .before .before .before .before .before .before .before .before .before .before .args .rows .now)) (readRows (c .before .before .before .before .before .before .before .before .before .before .before .before .before .before .before .args .text .now) (c .before .before .before .before .before .before .before .before .before .before .before .before .before .before .before .args .rows .now)) (sym (c .before .before .before .before .before .before .before .before .before .before .check .ensures) ∙ c .before .before .before .before .before .before .before .before .v2 .given .1) in let y = accepted (c .before .before .before .before .before .before .before .before .before .before .before .before .before .before .before .args .text .now) (c .before .before .before .before .before .before .before .before .before .before .before .before .before .before .before .args .rows .now) (z .0) (z .1) in promise-listed (c .before .before .before .before .before .before .before .before .before .before .before .before .before .before .before .args .text .now) (c .before .before .before .before .before .before .before .before .before .before .before .before .before .before .before .args .rows .now) (c .before .before .before .before .before .before .before .before .before .before .before .before .before .before .before .args .literals .now) (c .before .before .before .before .before .before .before .before .before .before .before .before .before .before .before .args .ends .now) (z .0) (z .1) (subst (λ (s : Tree). Gives (listOf (clauses false s) (c .before .before .before .before .before .before .before .before .before .before .before .before .before .before .before .args .literals .now) (c .before .before .before .before .before .before .before .before .before .before .before .before .before .before .before .args .ends .now)) (c .before .before .before .before .list-tree .result) (c .before .before .before .before .list-tree .last .1 .0) (c .before .before .before .before .list-tree .last .1 .1 .0)) (ap (λ (n : ℕ). treeAt (c .before .before .before .before .before .before .before .before .before .before .before .before .before .before .before .args .rows .now) (n - 1)) (z .2) ∙ sym (y .tree)) (c .before .before .before .before .list-tree .ensures))
+returns-2 c =
+    let at-check = c .before .before .before .before .before .before .before .before .before .before in
+    let args = at-check .before .before .before .before .before .args in
+    let check = at-check .check in
+    let root = c .before .before .before .before .before .before .before .before .root in
+    let list-tree = c .before .before .before .before .list-tree in
+    splits-listed (args .text .now) (args .rows .now) (args .literals .now) (args .ends .now) (treeAt (args .rows .now) (root .given .0 .0))
+    (check .ensures .good _ (root .given .1) .reads) (list-tree .ensures)
 
 pub split-spec : {M : Type 1} → statement M
 split-spec =
     tie.close
     (tie.spec
     check-requires
-    enum-known-v
-    enum-known-v-2
-    sub-last
+    enum-known-why
+    enum-known-root
     list-tree-requires
     returns
     same-length

@@ -1,7 +1,7 @@
 -- `test::is_leaf` meets its contract: by the shape.
 -- Assumes nothing.
 use mathlib.Core.Path.{sym, ap}
-use Rattle.columns.specs.Gather.{isLeaf}
+use Rattle.columns.specs.Partial.{isLeaf}
 use borrow.Author.Needs.{needs}
 use Rattle.columns.proofs.test.is_leaf.Statement.{statement}
 use Rattle.columns.proofs.test.is_leaf.Tie as tie
