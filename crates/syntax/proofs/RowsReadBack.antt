@@ -15,7 +15,7 @@ use Rattle.rows.specs.Layout.{width, numbers, rowAt}
 use Rattle.rows.specs.PostOrder.{Subtree, at, any, Operands, found, ends, before, directlyBefore, Next, bad, on, push}
 use Rattle.rows.specs.declared.Row.{Row}
 use Rattle.rows.proofs.Numbers.{row-of-numbers}
-use Rattle.rows.proofs.Standing.{took}
+use Rattle.rows.proofs.StackedOperands.{took}
 use Rattle.syntax.specs.Tree.{Tree, leaf, unary, binary, call, Trees, none, more, size, sizes, many, root, rowsOf, rowsAll}
 use Rattle.syntax.specs.Read.{Arity, nullary, one, two, counted, arityOf, operandsBy, gather, overOne, overTwo, nodeBy, stepAt, andThen, readFrom, Whole}
 use Rattle.syntax.proofs.Lengths.{length-rows, length-all}
