@@ -51,13 +51,7 @@ fn value_in(test: Test) -> TestValue
 }
 
 // Adds the value that a test looks for, if there is one.
-fn with_value(
-    wanted: usize,
-    column: usize,
-    many: usize,
-    kept: Value,
-    test: Test,
-) -> PartialLookup
+fn with_value(wanted: usize, column: usize, many: usize, kept: Value, test: Test) -> PartialLookup
     requires { ⌜ many < literalsMax ⌝ }
     ensures { λ r. ⌜ r ≡ withValue wanted column many kept (valueIn test) ⌝ }
 {
@@ -118,7 +112,11 @@ fn literal_test(rows: &[u64], atom: usize, negated: bool) -> Test
     requires { ⌜ Sound (now rows) atom ⌝ }
     ensures { λ t. ⌜ t ≡ literalTest (literal negated (treeAt (now (rows .entry)) atom)) ⌝ }
 {
-    if negated { Test::Other } else { test_at(rows, atom) }
+    if negated {
+        Test::Other
+    } else {
+        test_at(rows, atom)
+    }
 }
 
 // Adds one literal, by its atom's row.

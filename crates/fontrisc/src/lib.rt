@@ -1,19 +1,17 @@
 // The C face: each function calls one entry and hands its answer out as numbers. include/fontrisc.h declares them for C and C++.
 //
 // A slice is a pointer and a count of elements. Each function but `fontrisc_spelled` returns 0 for an answer, else the refusal's number; then the first
-// number lent for answers is the refusal's place and the others are 0.
-use lookup::Found;
-use lookup::Looked;
+// number lent for answers is the refusal's place and the others are 0. Which numbers an answer is, the entry's own promise says.
+use lookup::FoundValue;
+use lookup::LookedUp;
 use parser::Parsed;
 use splitter::Listed;
-use values::row_of;
+use values::constant_of;
 ghost use mathlib.Core.Path.{_≡_};
 ghost use Rattle.tokens.specs.Token.{spanAt};
-ghost use Rattle.predicate.specs.Read.{readRows};
-ghost use Rattle.lookup.specs.Answer.{asked, foundOf};
-ghost use Rattle.fontrisc.specs.Face.{ParsesTo, SplitsTo, LooksUpTo, Finds};
+ghost use Rattle.fontrisc.specs.Face.{ParsesTo, SplitsTo, LooksUpTo, FindsValueTo};
 
-// Where the bytes of token n lie in the text.
+// Hands out where the bytes of token n lie in the text.
 #[no_mangle]
 pub extern "C" fn fontrisc_spelled(
     text: &[u8],
@@ -22,7 +20,8 @@ pub extern "C" fn fontrisc_spelled(
     start: &mut u64,
     length: &mut u64,
 )
-    ensures { λ _. ⌜ (now (start .exit) ≡ spanAt (now (text .entry)) (now (tokens .entry)) n .start) × (now (length .exit) ≡ spanAt (now (text .entry)) (now (tokens .entry)) n .length) ⌝ }
+    ensures { λ _. ⌜ (now (start .exit) ≡ spanAt (now (text .entry)) (now (tokens .entry)) n .start)
+        × (now (length .exit) ≡ spanAt (now (text .entry)) (now (tokens .entry)) n .length) ⌝ }
 {
     let span = tokens::table::span_at(text, tokens, n);
     *start = span.start as u64;
@@ -34,8 +33,8 @@ pub extern "C" fn fontrisc_spelled(
 pub extern "C" fn fontrisc_parse(text: &[u8], tokens: &[u32], rows: &mut [u64], at: &mut u64) -> u32
     ensures { λ r. ⌜ ParsesTo (now (text .entry)) (now (tokens .entry)) (now (rows .entry)) (now (rows .exit)) r (now (at .exit)) ⌝ }
 {
-    let v = parser::parse(text, tokens, rows);
-    match v {
+    let parsed = parser::parse(text, tokens, rows);
+    match parsed {
         Parsed::Rows(n) => {
             *at = n as u64;
             0
@@ -57,10 +56,11 @@ pub extern "C" fn fontrisc_split(
     clauses: &mut u64,
     total: &mut u64,
 ) -> u32
-    ensures { λ r. ⌜ SplitsTo (now (text .entry)) (now (rows .entry)) (now (literals .entry)) (now (ends .entry)) (now (literals .exit)) (now (ends .exit)) r (now (clauses .exit)) (now (total .exit)) ⌝ }
+    ensures { λ r. ⌜ SplitsTo (now (text .entry)) (now (rows .entry)) (now (literals .entry)) (now (ends .entry))
+        (now (literals .exit)) (now (ends .exit)) r (now (clauses .exit)) (now (total .exit)) ⌝ }
 {
-    let v = splitter::split(text, rows, literals, ends);
-    match v {
+    let listed = splitter::split(text, rows, literals, ends);
+    match listed {
         Listed::Clauses(c, m) => {
             *clauses = c as u64;
             *total = m as u64;
@@ -85,14 +85,14 @@ pub extern "C" fn fontrisc_lookup(
 ) -> u32
     ensures { λ r. ⌜ LooksUpTo (now (text .entry)) (now (rows .entry)) clause r (now (column .exit)) (now (count .exit)) ⌝ }
 {
-    let v = lookup::lookup(text, rows, clause);
-    match v {
-        Looked::On(c, n) => {
+    let looked = lookup::lookup(text, rows, clause);
+    match looked {
+        LookedUp::OnColumn(c, n) => {
             *column = c as u64;
             *count = n as u64;
             0
         }
-        Looked::Refused(why, place) => {
+        LookedUp::Refused(why, place) => {
             *column = place as u64;
             *count = 0;
             refusals::number_of(why)
@@ -100,7 +100,7 @@ pub extern "C" fn fontrisc_lookup(
     }
 }
 
-// Asks for value n of a clause that is a lookup, as a constant's row: `kind`, `x` and `y`.
+// Asks for value n of a clause that is a lookup, as a constant: `kind`, `x` and `y`.
 #[no_mangle]
 pub extern "C" fn fontrisc_value(
     text: &[u8],
@@ -111,18 +111,18 @@ pub extern "C" fn fontrisc_value(
     x: &mut u64,
     y: &mut u64,
 ) -> u32
-    ensures { λ r. ⌜ Finds (foundOf (asked (readRows (now (text .entry)) (now (rows .entry))) clause) n) r (now (kind .exit)) (now (x .exit)) (now (y .exit)) ⌝ }
+    ensures { λ r. ⌜ FindsValueTo (now (text .entry)) (now (rows .entry)) clause n r (now (kind .exit)) (now (x .exit)) (now (y .exit)) ⌝ }
 {
-    let v = lookup::value_at(text, rows, clause, n);
-    match v {
-        Found::At(value) => {
-            let row = row_of(value);
-            *kind = row.kind;
-            *x = row.x;
-            *y = row.y;
+    let found = lookup::value_at(text, rows, clause, n);
+    match found {
+        FoundValue::Found(value) => {
+            let constant = constant_of(value);
+            *kind = constant.kind;
+            *x = constant.x;
+            *y = constant.y;
             0
         }
-        Found::Refused(why, place) => {
+        FoundValue::Refused(why, place) => {
             *kind = place as u64;
             *x = 0;
             *y = 0;

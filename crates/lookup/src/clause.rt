@@ -49,12 +49,36 @@ pub fn with_clause(
         Source::Joined(left, right, both_negated, crosswise) => {
             if crosswise {
                 let each = clause_count_at(table, right, both_negated);
-                let first = with_clause(rows, table, left, both_negated, clause / each, wanted, partial);
-                with_clause(rows, table, right, both_negated, clause % each, wanted, first)
+                let first = with_clause(
+                    rows,
+                    table,
+                    left,
+                    both_negated,
+                    clause / each,
+                    wanted,
+                    partial,
+                );
+                with_clause(
+                    rows,
+                    table,
+                    right,
+                    both_negated,
+                    clause % each,
+                    wanted,
+                    first,
+                )
             } else {
                 let many = clause_count_at(table, left, both_negated);
                 let found = clause_of_two(left, right, many, clause);
-                with_clause(rows, table, found.row, both_negated, found.clause, wanted, partial)
+                with_clause(
+                    rows,
+                    table,
+                    found.row,
+                    both_negated,
+                    found.clause,
+                    wanted,
+                    partial,
+                )
             }
         }
     }

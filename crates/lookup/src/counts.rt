@@ -120,10 +120,16 @@ fn clause_counts_of(rows: &[u64], table: &[u16], row: usize) -> ClauseCounts
         Shape::One(_) => atom_counts(),
         Shape::Two(_, _) => atom_counts(),
         Shape::Both(left, right) => {
-            both_counts(clause_counts_at(table, left), clause_counts_at(table, right))
+            both_counts(
+                clause_counts_at(table, left),
+                clause_counts_at(table, right),
+            )
         }
         Shape::Either(left, right) => {
-            either_counts(clause_counts_at(table, left), clause_counts_at(table, right))
+            either_counts(
+                clause_counts_at(table, left),
+                clause_counts_at(table, right),
+            )
         }
         Shape::Not(operand) => not_counts(clause_counts_at(table, operand)),
     }

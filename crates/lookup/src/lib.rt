@@ -65,7 +65,15 @@ fn clause_lookup_with(
     ensures { λ p. ⌜ p ≡ withClause (now (rows .entry)) root false clause wanted PartialLookup.Empty ⌝ }
 {
     fill_clause_counts(rows, table, root);
-    with_clause(rows, table, root, false, clause, wanted, PartialLookup::Empty)
+    with_clause(
+        rows,
+        table,
+        root,
+        false,
+        clause,
+        wanted,
+        PartialLookup::Empty,
+    )
 }
 
 // The same, with a table that is large enough.

@@ -19,7 +19,7 @@ use Rattle.grammar.specs.Rules.{Reading}
 use Rattle.grammar.specs.Rules as T
 use Rattle.grammar.specs.Memory.{Out, done, refuse, Gives, whole}
 use Rattle.parser.specs.Inner.{outAfterCheck, parsingOut, RefusedAndCleared}
-use Rattle.parser.specs.Promise.{afterCheck, parsing, answerOf, tableOf, parseNumber, parseOut, Answers, Parses}
+use Rattle.parser.specs.Promise.{afterCheck, parsing, answerOf, tableOf, parseNumbers, Answers, Parses}
 use Rattle.parser.specs.declared.Parsed.{Parsed}
 use Rattle.parser.specs.declared.Parsed.the-variants as parsed
 use Rattle.grammar.specs.declared.Cursor.{Cursor}
@@ -40,9 +40,9 @@ tableIn (refuse why at) = []
 
 -- an answer and a table that are the reading's are all that it answers: the answer's numbers follow
 answers : {t u : List ℕ} {r : Parsed} (o : Reading) → r ≡ answerOf o → u ≡ tableOf t o → Answers o t r u
-unfolding parseNumber parseOut
-answers (T.done at used x) answer table = record { answer = answer; table = table; returned = ap parseNumber answer; handedOut = ap parseOut answer }
-answers (T.refuse why at) answer table = record { answer = answer; table = table; returned = ap parseNumber answer; handedOut = ap parseOut answer }
+unfolding parseNumbers
+answers (T.done at used x) answer table = record { answer = answer; table = table; numbers = ap parseNumbers answer }
+answers (T.refuse why at) answer table = record { answer = answer; table = table; numbers = ap parseNumbers answer }
 
 module _ (text ts t : List ℕ) (levels : ℕ) where
   -- the table's check, and what it leaves to read

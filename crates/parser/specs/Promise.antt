@@ -1,7 +1,7 @@
 -- What `parse` answers, the numbers that the answer is for a C caller, and the row table as it leaves it: all are determined (FORMAT §4, §5 and §11).
 use mathlib.Core.Path.{_≡_}
 use Prim.Native.Nat.{ℕ, _*_}
-use mathlib.Core.List.{List, _++_}
+use mathlib.Core.List.{List, [], _∷_, _++_}
 use lib.ListN.{length, drop, replicate}
 use Rattle.refusals.specs.Refusal.{refusalNumber}
 use Rattle.tokens.specs.Token.{checkTable}
@@ -34,27 +34,17 @@ abbrev pub tableOf : List ℕ → Reading → List ℕ
 tableOf t (done at used x) = rowsOf 0 x ++ drop (size x * width) t
 tableOf t (refuse why at) = replicate (length t) 0
 
--- what a C function returns of it: 0, or the refusal's number
-abbrev pub returnedOf : Reading → ℕ
-returnedOf (done at used x) = 0
-returnedOf (refuse why at) = refusalNumber why
+-- ---- the numbers that it is for a C caller (FORMAT §11.8): what is returned, and then what is handed out
 
--- and what it hands out: the tree's size, or the refusal's place
-abbrev pub handedOutOf : Reading → ℕ
-handedOutOf (done at used x) = size x
-handedOutOf (refuse why at) = at
+-- of an answer: 0 and how many rows were written; or the refusal's number and its place
+unfoldable pub parseNumbers : Parsed → List ℕ
+parseNumbers (Rows n) = 0 ∷ n ∷ []
+parseNumbers (Refused why at) = refusalNumber why ∷ at ∷ []
 
--- ---- the numbers of an answer (FORMAT §11.8)
-
--- what is returned: 0, or the refusal's number
-unfoldable pub parseNumber : Parsed → ℕ
-parseNumber (Rows n) = 0
-parseNumber (Refused why at) = refusalNumber why
-
--- what is handed out: how many rows were written, or the refusal's place
-unfoldable pub parseOut : Parsed → ℕ
-parseOut (Rows n) = n
-parseOut (Refused why at) = at
+-- and of what a reading comes to
+abbrev pub readingNumbers : Reading → List ℕ
+readingNumbers (done at used x) = 0 ∷ size x ∷ []
+readingNumbers (refuse why at) = refusalNumber why ∷ at ∷ []
 
 -- ---- the promise
 
@@ -62,8 +52,7 @@ parseOut (Refused why at) = at
 pub record Answers (o : Reading) (t : List ℕ) (r : Parsed) (u : List ℕ) : Type 0 where
   pub answer : r ≡ answerOf o
   pub table : u ≡ tableOf t o
-  pub returned : parseNumber r ≡ returnedOf o
-  pub handedOut : parseOut r ≡ handedOutOf o
+  pub numbers : parseNumbers r ≡ readingNumbers o
 
 -- parsing with so many levels into the table t answers r and leaves the table u
 abbrev pub Parses : ℕ → List ℕ → List ℕ → List ℕ → Parsed → List ℕ → Type 0

@@ -19,7 +19,7 @@ use Rattle.cnf.specs.Clause.{Literal, literal, clauses, total, bit, literalNumb
 use Rattle.cnf.specs.Kleene.{readBack, Means}
 use Rattle.cnf.specs.Size.{withinLimits, sizeOf}
 use Rattle.listing.specs.Listing.{Written}
-use Rattle.splitter.specs.Split.{Split, listOf, splitOf, splitNumber, splitFirst, splitSecond, Gives, Splits}
+use Rattle.splitter.specs.Split.{Split, listOf, splitOf, splitNumbers, Gives, Splits}
 use Rattle.cnf.specs.declared.Size.{Size}
 use Rattle.cnf.specs.declared.Size.the-variants as size
 use Rattle.splitter.specs.declared.Listed.{Listed}
@@ -152,9 +152,7 @@ module _ (text rows a d : List ℕ) where
       → Splits text rows a d v b x
   splits p means = record {
     gives = p;
-    number = ap splitNumber (p .answer);
-    first = ap splitFirst (p .answer);
-    second = ap splitSecond (p .answer);
+    numbers = ap splitNumbers (p .answer);
     means = means;
   }
 

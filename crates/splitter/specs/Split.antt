@@ -2,7 +2,7 @@
 use Prim.Native.Nat.{ℕ}
 use mathlib.Core.Path.{_≡_}
 use mathlib.Core.Bool.{true, false, _||_}
-use mathlib.Core.List.{List, _++_}
+use mathlib.Core.List.{List, [], _∷_, _++_}
 use lib.ListN.{length, take, drop}
 use lib.Dec.{ltb}
 use Rattle.limits.specs.Limits.{clausesMax, literalsMax}
@@ -49,30 +49,18 @@ pub record Gives (s : Split) (v : Listed) (b e : List ℕ) : Type 0 where
   pub literals : b ≡ s .literals
   pub ends : e ≡ s .ends
 
--- ---- the answer as numbers, for a C caller (FORMAT §11.8)
+-- ---- the numbers that an answer is for a C caller (FORMAT §11.8): what is returned, and then what is handed out
 
--- what is returned: 0, or the refusal's number
-unfoldable pub splitNumber : Listed → ℕ
-splitNumber (Clauses c m) = 0
-splitNumber (Refused why place) = refusalNumber why
-
--- what is handed out first: how many clauses there are, or the refusal's place
-unfoldable pub splitFirst : Listed → ℕ
-splitFirst (Clauses c m) = c
-splitFirst (Refused why place) = place
-
--- and second: how many literals there are, or 0
-unfoldable pub splitSecond : Listed → ℕ
-splitSecond (Clauses c m) = m
-splitSecond (Refused why place) = 0
+-- 0, how many clauses there are, and how many literals; or the refusal's number, its place, and 0
+unfoldable pub splitNumbers : Listed → List ℕ
+splitNumbers (Clauses c m) = 0 ∷ c ∷ m ∷ []
+splitNumbers (Refused why place) = refusalNumber why ∷ place ∷ 0 ∷ []
 
 -- ---- the promise
 
--- the whole promise. What is answered and left is `splitOf` of the rows, and the numbers for a C caller are those of that answer; and where clauses are
--- answered, the numbers in the lists mean the predicate
+-- What is answered and left is `splitOf` of the rows, and so are the numbers for a C caller; and where clauses are answered, the numbers in the lists
+-- mean the predicate
 pub record Splits (text rows a d : List ℕ) (v : Listed) (b e : List ℕ) : Type 0 where
   pub gives : Gives (splitOf (readRows text rows) a d) v b e
-  pub number : splitNumber v ≡ splitNumber (splitOf (readRows text rows) a d .answer)
-  pub first : splitFirst v ≡ splitFirst (splitOf (readRows text rows) a d .answer)
-  pub second : splitSecond v ≡ splitSecond (splitOf (readRows text rows) a d .answer)
+  pub numbers : splitNumbers v ≡ splitNumbers (splitOf (readRows text rows) a d .answer)
   pub means : (t : Tree) (c m : ℕ) → readRows text rows ≡ one t → v ≡ Clauses c m → Means t (readBack b 0 (take c e))

@@ -11,7 +11,7 @@ use Rattle.grammar.specs.Rules as rules
 use Rattle.syntax.specs.Tree as syntax
 use Rattle.tokens.specs.Token as token
 use Rattle.numbers.specs.Number as number
-use Rattle.rows.specs.PostOrder as whole
+use Rattle.rows.specs.PostOrder as order
 use Rattle.predicate.specs.Row as row
 use Rattle.predicate.specs.Tree as tree
 use Rattle.predicate.specs.Read as read
@@ -21,5 +21,17 @@ use Rattle.columns.specs.Lookup as lookup
 use Rattle.lookup.specs.Answer as answer
 
 pub examples : map (λ (c : List ℕ × List ℕ). c .0) cases ≡ map (λ (c : List ℕ × List ℕ). c .1) cases
-unfolding cases said.tokens said.parsed said.split said.values said.lookedUp promise.parsing rules._>>=_ rules.while rules.due rules.missing rules.need rules.nullOrNan rules.postfix rules.postfixes rules.numeral rules.column rules.group rules.argument rules.arguments rules.named rules.atom rules.operand rules.infixed rules.infixes rules.level rules.expression rules.finish rules.wholeExpression operator.among operator.infixOf operator.rightOf operator.prefixOf operator.postfixOf operator.binds operator.startOf syntax.size syntax.sizes syntax.many syntax.rowsOf syntax.rowsAll token.tokenAt token.kindAt token.known token.fits token.checkFrom token.checkTable token.spanOf token.spanAt token.spelled number.digit number.begins number.ended number.pastDigits number.digits number.pastFraction number.pastSign number.exponent number.valueFrom number.integerOf number.numberOf whole.ends whole.before whole.directlyBefore whole.push row.among row.classes row.classIn row.classOf row.allowedOf row.shapeOf row.shapeAt row.arityOf row.operandsOf tree.rootOf tree.nodeOf read.stepAt read.ended read.andThen read.readFrom read.readRows clause.clauses clause.code value.signedOf value.patternOf value.valueBy value.valueOf value.rowOf lookup.leafOf lookup.isColumn lookup.isConstant lookup.equalOf lookup.isOf lookup.testOf lookup.testIn lookup.tests lookup.allTest value.undefined lookup.valueIn lookup.valuesIn lookup.lookOn lookup.lookFrom lookup.lookIn lookup.lookOf answer.askedOf answer.askedIn answer.asked
+unfolding cases said.tokens said.parsed said.split said.values said.lookedUp promise.parsing rules._>>=_ rules.while rules.due rules.missing
+    rules.need rules.nullOrNan rules.postfix rules.postfixes rules.numeral rules.column rules.group rules.argument rules.arguments
+    rules.named rules.atom rules.operand rules.infixed rules.infixes rules.level rules.expression rules.finish rules.wholeExpression
+    operator.among operator.infixOf operator.rightOf operator.prefixOf operator.postfixOf operator.binds operator.startOf operator.operates
+    syntax.size syntax.sizes syntax.many syntax.rowsOf syntax.rowsAll token.tokenAt token.kindAt token.known token.fits token.checkFrom
+    token.checkTable token.spanOf token.spanAt token.spelled number.digit number.begins number.ended number.pastDigits number.digits
+    number.pastFraction number.pastSign number.exponent number.valueFrom number.integerOf number.numberOf order.ends order.before
+    order.directlyBefore order.push row.among row.classes row.classIn row.classOf row.allowedOf row.shapeOf row.shapeAt row.arityOf
+    row.operandsOf tree.rootOf tree.nodeOf read.stepAt read.ended read.andThen read.readFrom read.readRows clause.clauses
+    clause.literalNumber value.signedOf value.patternOf value.valueBy value.valueOf value.constantOf value.isUndefined lookup.leafOf
+    lookup.isColumn lookup.isConstant lookup.equalTest lookup.isTest lookup.testOf lookup.literalTest lookup.testsColumn
+    lookup.allTestColumn lookup.valueIn lookup.valuesIn lookup.lookupOn lookup.lookupFrom lookup.lookupIn lookup.clauseLookup
+    answer.lookupOrRefusal answer.lookupAmong answer.lookupOf
 examples = refl

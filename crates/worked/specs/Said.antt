@@ -4,14 +4,13 @@ use mathlib.Core.List.{List, [], _∷_, _++_}
 use mathlib.Core.Bool.{false}
 use Rattle.limits.specs.Limits.{rowsMax, levelMax}
 use Rattle.refusals.specs.Refusal.{refusalNumber}
-use Rattle.rows.specs.Layout.{numbers}
 use Rattle.syntax.specs.Tree.{rowsOf}
 use Rattle.grammar.specs.Rules as rules
 use Rattle.parser.specs.Promise.{parsing}
 use Rattle.predicate.specs.Read.{Reading, one, refused, readRows}
 use Rattle.cnf.specs.Clause as clause
-use Rattle.values.specs.Value.{rowOf}
-use Rattle.lookup.specs.Answer.{Asked, holds, refuse, asked}
+use Rattle.values.specs.Value.{constantOf, constantNumbers}
+use Rattle.lookup.specs.Answer.{Lookup, onColumn, refuse, lookupOf}
 use Rattle.values.specs.declared.Value.{Value}
 
 -- tokens of one byte each, from place i of a text on
@@ -32,17 +31,17 @@ unfoldable pub split : List ℕ → List ℕ
 split rows = said (readRows [] rows)
   where
     said : Reading → List ℕ
-    said (one t) = 0 ∷ clause.numbers (clause.clauses false t) ++ clause.endsFrom 0 (clause.clauses false t)
+    said (one t) = 0 ∷ clause.literalNumbers (clause.clauses false t) ++ clause.endsFrom 0 (clause.clauses false t)
     said (refused why place) = refusalNumber why ∷ place ∷ []
 
--- a lookup's column and its values, each as a constant's row
+-- a lookup's column and its values, each as a constant
 unfoldable pub values : List Value → List ℕ
 values [] = []
-values (v ∷ vs) = numbers (rowOf v) ++ values vs
+values (v ∷ vs) = constantNumbers (constantOf v) ++ values vs
 
 unfoldable pub lookedUp : List ℕ → ℕ → List ℕ
-lookedUp rows k = said (asked (readRows [] rows) k)
+lookedUp rows k = said (lookupOf (readRows [] rows) k)
   where
-    said : Asked → List ℕ
-    said (holds c vs) = 0 ∷ c ∷ values vs
+    said : Lookup → List ℕ
+    said (onColumn c vs) = 0 ∷ c ∷ values vs
     said (refuse why place) = refusalNumber why ∷ place ∷ []

@@ -1,7 +1,7 @@
 -- `fontrisc_split` meets its contract: it hands out the answer of `split`.
 -- Assumes nothing.
-use mathlib.Core.Path.{sym, ap, _∙_}
-use Rattle.fontrisc.specs.Face.{splitCode, clausesOut, totalOut}
+use mathlib.Core.Path.{sym, ap}
+use Rattle.splitter.specs.Split.{splitNumbers}
 use borrow.Author.Needs.{needs}
 use Rattle.fontrisc.proofs.fontrisc_split.Statement.{statement}
 use Rattle.fontrisc.proofs.fontrisc_split.Tie as tie
@@ -9,11 +9,11 @@ use Rattle.fontrisc.proofs.fontrisc_split.Tie as tie
 split-requires : tie.Need-split-requires
 split-requires c κs = search needs
 
-enum-known-v : tie.Need-enum-known-v
-enum-known-v c = search needs
+enum-known-listed : tie.Need-enum-known-listed
+enum-known-listed c = search needs
 
-enum-known-v-2 : tie.Need-enum-known-v-2
-enum-known-v-2 c = search needs
+enum-known-listed-2 : tie.Need-enum-known-listed-2
+enum-known-listed-2 c = search needs
 
 number-of-requires : tie.Need-number-of-requires
 number-of-requires c κs = search needs
@@ -25,8 +25,10 @@ same-length-2 : tie.Need-same-length-2
 same-length-2 c = search needs
 
 returns : tie.Need-returns
-unfolding splitCode clausesOut totalOut
-returns c = record { answer = c .before .before .before .before .before .before .before .split .result; splits = c .before .before .before .before .before .before .before .split .ensures; code = sym (ap splitCode (c .before .v .given .1)); first = sym (ap clausesOut (c .before .v .given .1)); second = sym (ap totalOut (c .before .v .given .1)) }
+unfolding splitNumbers
+returns c =
+    let split = c .before .before .before .before .before .before .before .split in
+    record { answer = split .result; splits = split .ensures; numbers = sym (ap splitNumbers (c .before .listed .given .1)) }
 
 same-length-3 : tie.Need-same-length-3
 same-length-3 c = search needs
@@ -35,16 +37,18 @@ same-length-4 : tie.Need-same-length-4
 same-length-4 c = search needs
 
 returns-2 : tie.Need-returns-2
-unfolding splitCode clausesOut totalOut
-returns-2 c = record { answer = c .before .before .before .before .before .before .before .before .split .result; splits = c .before .before .before .before .before .before .before .before .split .ensures; code = c .number-of .ensures ∙ sym (ap splitCode (c .before .before .v2 .given .1)); first = sym (ap clausesOut (c .before .before .v2 .given .1)); second = sym (ap totalOut (c .before .before .v2 .given .1)) }
+unfolding splitNumbers
+returns-2 c =
+    let split = c .before .before .before .before .before .before .before .before .split in
+    record { answer = split .result; splits = split .ensures; numbers = rw (c .number-of .ensures) (sym (ap splitNumbers (c .before .before .listed2 .given .1))) }
 
 pub fontrisc-split-spec : {M : Type 1} → statement M
 fontrisc-split-spec =
     tie.close
     (tie.spec
     split-requires
-    enum-known-v
-    enum-known-v-2
+    enum-known-listed
+    enum-known-listed-2
     number-of-requires
     same-length
     same-length-2

@@ -1,6 +1,10 @@
--- `fontrisc_value` meets its contract: it hands out the answer of `value_at`, a value as a constant's row.
+-- `fontrisc_value` meets its contract: it hands out the answer of `value_at`, a value as a constant.
 -- Assumes nothing.
-use Rattle.fontrisc.proofs.Handing.{hands-value, hands-refusal}
+use mathlib.Core.Path.{sym, ap, _∙_}
+use mathlib.Core.List.{_∷_}
+use Rattle.values.specs.Value.{constantNumbers}
+use Rattle.values.specs.declared.Constant.{Constant}
+use Rattle.lookup.specs.Answer.{foundNumbers}
 use borrow.Author.Needs.{needs}
 use Rattle.fontrisc.proofs.fontrisc_value.Statement.{statement}
 use Rattle.fontrisc.proofs.fontrisc_value.Tie as tie
@@ -8,32 +12,39 @@ use Rattle.fontrisc.proofs.fontrisc_value.Tie as tie
 value-at-requires : tie.Need-value-at-requires
 value-at-requires c κs = search needs
 
-enum-known-v : tie.Need-enum-known-v
-enum-known-v c = search needs
+enum-known-found : tie.Need-enum-known-found
+enum-known-found c = search needs
 
-row-of-requires : tie.Need-row-of-requires
-row-of-requires c κs = search needs
+constant-of-requires : tie.Need-constant-of-requires
+constant-of-requires c κs = search needs
 
-enum-known-v-2 : tie.Need-enum-known-v-2
-enum-known-v-2 c = search needs
+enum-known-found-2 : tie.Need-enum-known-found-2
+enum-known-found-2 c = search needs
 
 number-of-requires : tie.Need-number-of-requires
 number-of-requires c κs = search needs
 
 returns : tie.Need-returns
-returns c = hands-value (c .before .before .before .before .value-at .ensures) (c .before .before .v .given .1) (c .row-of .ensures)
+unfolding foundNumbers
+returns c =
+    let value-at = c .before .before .before .before .value-at in
+    let constant = ap (λ (k : Constant). 0 ∷ constantNumbers k) (c .constant-of .ensures) in
+    record { answer = value-at .result; finds = value-at .ensures; numbers = constant ∙ sym (ap foundNumbers (c .before .before .found .given .1)) }
 
 returns-2 : tie.Need-returns-2
-returns-2 c = hands-refusal (c .before .before .before .before .value-at .ensures) (c .before .before .v2 .given .1) (c .number-of .ensures)
+unfolding foundNumbers
+returns-2 c =
+    let value-at = c .before .before .before .before .value-at in
+    record { answer = value-at .result; finds = value-at .ensures; numbers = rw (c .number-of .ensures) (sym (ap foundNumbers (c .before .before .found2 .given .1))) }
 
 pub fontrisc-value-spec : {M : Type 1} → statement M
 fontrisc-value-spec =
     tie.close
     (tie.spec
     value-at-requires
-    enum-known-v
-    row-of-requires
-    enum-known-v-2
+    enum-known-found
+    constant-of-requires
+    enum-known-found-2
     number-of-requires
     returns
     returns-2)

@@ -1,2 +1,0 @@
--- What the faces hand out.
-pub mod Handing
