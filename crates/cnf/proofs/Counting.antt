@@ -1,5 +1,6 @@
--- Counting. An atom's list has one clause of one literal (`size-of-atom`), and two rows' lists joined have the size that is counted (`size-of-joined`). Along left
--- sides that are joined the same way a list of counted size grows from turn to turn (`spine-begins`, `spine-turns`, `spine-ends`).
+-- Counting. An atom's list has one clause of one literal (`size-of-atom`), and two rows' lists joined have the size that is counted
+-- (`size-of-joined`). Along left sides that are joined the same way a list of counted size grows from turn to turn (`spine-begins`,
+-- `spine-turns`, `spine-done`).
 -- Assumes nothing.
 use Prim.Native.Nat.{ℕ, _≤_}
 use mathlib.Core.Path.{_≡_, refl, sym, ap, ap₂, _∙_, subst}
@@ -58,23 +59,27 @@ same-way true false e = let z : _≡_ {A = ℕ} 0 1 = cc in absurd (omega arith)
 same-way false true e = let z : _≡_ {A = ℕ} 0 1 = cc in absurd (omega arith)
 same-way false false e = refl
 
-pub spine-begins : {l : List ℕ} {root : ℕ} (root-negated o : Bool) {last : Size} → Sound l root → Limited last → LeftSpine l root root-negated o last root root-negated last
+pub spine-begins : {l : List ℕ} {root : ℕ} (root-negated o : Bool) {last : Size} → Sound l root → Limited last
+    → LeftSpine l root root-negated o last root root-negated last
 spine-begins root-negated o h k = record { sound = h; below = omega arith; limited = k; rest = λ cs c. record { list = cs; counts = c; same = refl } }
 
 module _ {l : List ℕ} {root r : ℕ} {root-negated o neg : Bool} {last size : Size} (i : LeftSpine l root root-negated o last r neg size) where
   -- row r is counted: what is asked for is there
-  pub spine-ends : {a s : Size} → a ≡ sizeOf (clauses neg (treeAt l r)) → s ≡ joinSizes o a size →
+  pub spine-done : {a s : Size} → a ≡ sizeOf (clauses neg (treeAt l r)) → s ≡ joinSizes o a size →
       (cs : List (List Literal)) → SizeOfSome last cs → s ≡ sizeOf (join o (clauses root-negated (treeAt l root)) cs)
-  spine-ends e f cs c =
+  spine-done e f cs c =
       let rest = i .rest cs c in
       sized-join o (sized-tree neg (treeAt l r) e) (rest .counts) f .size ∙ ap sizeOf (rest .same)
 
   -- row r is joined the same way: its right side is counted, and its left side is next
-  pub spine-turns : {x y : ℕ} {k p : Bool} {v : Source} {b s : Size} → v ≡ sourceAt l r neg → v ≡ Joined x y k p → p ≡ o → b ≡ sizeOf (clauses k (treeAt l y)) → s ≡ joinSizes o b size →
+  pub spine-turns : {x y : ℕ} {k p : Bool} {v : Source} {b s : Size} → v ≡ sourceAt l r neg → v ≡ Joined x y k p → p ≡ o
+      → b ≡ sizeOf (clauses k (treeAt l y)) → s ≡ joinSizes o b size →
       LeftSpine l root root-negated o last x k s
   spine-turns {x} {y} {k} {p} {v} {b} {s} e f same count is =
       let z = source-is neg (i .sound) e f in
-      let joint : clauses neg (treeAt l r) ≡ join o (clauses k (treeAt l x)) (clauses k (treeAt l y)) = z .2 ∙ ap (λ (q : Bool). join q (clauses k (treeAt l x)) (clauses k (treeAt l y))) same in
+      let left : List (List Literal) = clauses k (treeAt l x) in
+      let right : List (List Literal) = clauses k (treeAt l y) in
+      let joint : clauses neg (treeAt l r) ≡ join o left right = z .2 ∙ ap (λ (q : Bool). join q left right) same in
       record {
         sound = sound-below x (i .sound) (omega (arith, z .0));
         below = omega (arith, z .0, i .below);
@@ -82,10 +87,10 @@ module _ {l : List ℕ} {root r : ℕ} {root-negated o neg : Bool} {last size : 
         rest = λ cs c.
             let rest = i .rest cs c in
             record {
-              list = join o (clauses k (treeAt l y)) (rest .list);
+              list = join o right (rest .list);
               counts = sized-join o (sized-tree k (treeAt l y) count) (rest .counts) is;
               same =
-                  sym (join-join o (clauses k (treeAt l x)) (clauses k (treeAt l y)) (rest .list))
+                  sym (join-join o left right (rest .list))
                   ∙ ap (λ (xs : List (List Literal)). join o xs (rest .list)) (sym joint)
                   ∙ rest .same;
             };

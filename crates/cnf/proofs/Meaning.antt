@@ -117,13 +117,15 @@ module _ (ρ : ℕ → Value) where
   any-append [] b = refl
   any-append (x ∷ a) b =
       ap (OR (negateIf (isNegated (literalNumber x)) (ρ (literalRow (literalNumber x))))) (any-append a b)
-      ∙ sym (OR-assoc (negateIf (isNegated (literalNumber x)) (ρ (literalRow (literalNumber x)))) (anyOf ρ (map literalNumber a)) (anyOf ρ (map literalNumber b)))
+      ∙ sym
+      (OR-assoc (negateIf (isNegated (literalNumber x)) (ρ (literalRow (literalNumber x)))) (anyOf ρ (map literalNumber a)) (anyOf ρ (map literalNumber b)))
 
   all-append : (xs ys : List (List Literal)) → allOf ρ (numbered (xs ++ ys)) ≡ AND (allOf ρ (numbered xs)) (allOf ρ (numbered ys))
   unfolding allOf
   all-append [] ys = refl
   all-append (x ∷ xs) ys =
-      ap (AND (anyOf ρ (map literalNumber x))) (all-append xs ys) ∙ sym (AND-assoc (anyOf ρ (map literalNumber x)) (allOf ρ (numbered xs)) (allOf ρ (numbered ys)))
+      ap (AND (anyOf ρ (map literalNumber x))) (all-append xs ys)
+      ∙ sym (AND-assoc (anyOf ρ (map literalNumber x)) (allOf ρ (numbered xs)) (allOf ρ (numbered ys)))
 
   all-before : (a : List Literal) (ys : List (List Literal)) → allOf ρ (numbered (before a ys)) ≡ OR (anyOf ρ (map literalNumber a)) (allOf ρ (numbered ys))
   unfolding allOf
@@ -206,21 +208,27 @@ split-atoms g t = each-atom (λ q. AtomOf q t) g t (λ q i. i)
 
 -- ---- what is read back
 
-read-on : (front rest : List ℕ) (cs : List (List Literal)) → readBack (front ++ (literalNumbers cs ++ rest)) (length front) (endsFrom (length front) cs) ≡ numbered cs
+read-on : (front rest : List ℕ) (cs : List (List Literal))
+    → readBack (front ++ (literalNumbers cs ++ rest)) (length front) (endsFrom (length front) cs) ≡ numbered cs
 unfolding readBack
 read-on front rest [] = refl
-read-on front rest (c ∷ cs) = ap₂ _∷_ here (ap₂ (λ (l : List ℕ) (i : ℕ). readBack l i (endsFrom i cs)) all (sym long) ∙ read-on (front ++ map literalNumber c) rest cs)
+read-on front rest (c ∷ cs) =
+    ap₂ _∷_ here (ap₂ (λ (l : List ℕ) (i : ℕ). readBack l i (endsFrom i cs)) all (sym long) ∙ read-on (front ++ map literalNumber c) rest cs)
   where
     all : front ++ ((map literalNumber c ++ literalNumbers cs) ++ rest) ≡ (front ++ map literalNumber c) ++ (literalNumbers cs ++ rest)
-    all = ap (λ (l : List ℕ). front ++ l) (append-assoc (map literalNumber c) (literalNumbers cs) rest) ∙ sym (append-assoc front (map literalNumber c) (literalNumbers cs ++ rest))
+    all =
+        ap (λ (l : List ℕ). front ++ l) (append-assoc (map literalNumber c) (literalNumbers cs) rest)
+        ∙ sym (append-assoc front (map literalNumber c) (literalNumbers cs ++ rest))
 
     long : length (front ++ map literalNumber c) ≡ length front + length c
     long = length-append front (map literalNumber c) ∙ ap (λ (n : ℕ). length front + n) (length-map c literalNumber)
 
-    here : take (length front + length c - length front) (drop (length front) (front ++ ((map literalNumber c ++ literalNumbers cs) ++ rest))) ≡ map literalNumber c
+    here : take (length front + length c - length front) (drop (length front) (front ++ ((map literalNumber c ++ literalNumbers cs) ++ rest)))
+        ≡ map literalNumber c
     here =
         let n : length front + length c - length front ≡ length (map literalNumber c) = omega (arith, length-map c literalNumber) in
-        ap₂ take n (drop-at front ((map literalNumber c ++ literalNumbers cs) ++ rest) (length front) refl ∙ append-assoc (map literalNumber c) (literalNumbers cs) rest)
+        ap₂ take n
+        (drop-at front ((map literalNumber c ++ literalNumbers cs) ++ rest) (length front) refl ∙ append-assoc (map literalNumber c) (literalNumbers cs) rest)
         ∙ take-at (map literalNumber c) (literalNumbers cs ++ rest) (length (map literalNumber c)) refl
 
 pub read-back : (rest : List ℕ) (cs : List (List Literal)) → readBack (literalNumbers cs ++ rest) 0 (endsFrom 0 cs) ≡ numbered cs

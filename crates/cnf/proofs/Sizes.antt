@@ -18,7 +18,7 @@ use Rattle.cnf.specs.declared.Size.{Size}
 use Rattle.cnf.specs.declared.Size.the-variants.{TooMany, Is}
 use Rattle.cnf.proofs.Crossing.{before, cross-cross}
 
--- ---- caps
+-- ---- limits
 
 many-clauses : (c l : ℕ) → clausesMax < c → withinLimits c l ≡ TooMany
 unfolding withinLimits
@@ -32,16 +32,16 @@ many-literals c l h = ap (λ (b : Bool). pick (leb c clausesMax) (pick b (Is c l
     go true = refl
     go false = refl
 
--- what a capped size says
-abbrev Caps : ℕ → ℕ → Size → Type 0
-Caps c l TooMany = Unit {0}
-Caps c l (Is d m) = (d ≡ c) × (m ≡ l) × (c ≤ clausesMax) × (l ≤ literalsMax)
+-- what a size within the limits says
+abbrev LimitsSay : ℕ → ℕ → Size → Type 0
+LimitsSay c l TooMany = Unit {0}
+LimitsSay c l (Is d m) = (d ≡ c) × (m ≡ l) × (c ≤ clausesMax) × (l ≤ literalsMax)
 
-cap-is : (c l : ℕ) → Caps c l (withinLimits c l)
+limits-say : (c l : ℕ) → LimitsSay c l (withinLimits c l)
 unfolding withinLimits
-cap-is c l = go (leb c clausesMax) (leb l literalsMax) refl refl
+limits-say c l = go (leb c clausesMax) (leb l literalsMax) refl refl
   where
-    go : (p q : Bool) → leb c clausesMax ≡ p → leb l literalsMax ≡ q → Caps c l (pick p (pick q (Is c l) TooMany) TooMany)
+    go : (p q : Bool) → leb c clausesMax ≡ p → leb l literalsMax ≡ q → LimitsSay c l (pick p (pick q (Is c l) TooMany) TooMany)
     go true true e f = (refl, refl, leb-true c clausesMax e, leb-true l literalsMax f)
     go true false e f = tt
     go false q e f = tt
@@ -49,31 +49,32 @@ cap-is c l = go (leb c clausesMax) (leb l literalsMax) refl refl
 pub size-is : (cs : List (List Literal)) {c l : ℕ} → sizeOf cs ≡ Is c l
     → (c ≡ length cs) × (l ≡ total cs) × (length cs ≤ clausesMax) × (total cs ≤ literalsMax)
 unfolding sizeOf
-size-is cs e = subst (Caps (length cs) (total cs)) e (cap-is (length cs) (total cs))
+size-is cs e = subst (LimitsSay (length cs) (total cs)) e (limits-say (length cs) (total cs))
 
 pub size-many : (cs : List (List Literal)) → sizeOf cs ≡ TooMany → length cs ≤ clausesMax → total cs ≤ literalsMax → ⊥
 unfolding sizeOf withinLimits
 size-many cs e h k = go (leb (length cs) clausesMax) (leb (total cs) literalsMax) refl refl e
   where
-    go : (p q : Bool) → leb (length cs) clausesMax ≡ p → leb (total cs) literalsMax ≡ q → pick p (pick q (Is (length cs) (total cs)) TooMany) TooMany ≡ TooMany → ⊥
+    go : (p q : Bool) → leb (length cs) clausesMax ≡ p → leb (total cs) literalsMax ≡ q
+        → pick p (pick q (Is (length cs) (total cs)) TooMany) TooMany ≡ TooMany → ⊥
     go true true f g d = let z : _≡_ {A = ℕ} 0 1 = cc in omega arith
     go true false f g d = omega (arith, leb-false (total cs) literalsMax g)
     go false q f g d = omega (arith, leb-false (length cs) clausesMax f)
 
-limited-caps : (c l : ℕ) (s : Size) → Caps c l s → Limited s
-limited-caps c l TooMany h = tt
-limited-caps c l (Is d m) h = (omega (arith, h .0, h .2), omega (arith, h .1, h .3))
+limited-says : (c l : ℕ) (s : Size) → LimitsSay c l s → Limited s
+limited-says c l TooMany h = tt
+limited-says c l (Is d m) h = (omega (arith, h .0, h .2), omega (arith, h .1, h .3))
 
 pub limited-size : (cs : List (List Literal)) {s : Size} → s ≡ sizeOf cs → Limited s
 unfolding sizeOf
-limited-size cs e = subst Limited (sym e) (limited-caps (length cs) (total cs) (sizeOf cs) (cap-is (length cs) (total cs)))
+limited-size cs e = subst Limited (sym e) (limited-says (length cs) (total cs) (sizeOf cs) (limits-say (length cs) (total cs)))
 
 pub limited-joined : (o : Bool) (a b : Size) → Limited (joinSizes o a b)
 unfolding joinSizes
 limited-joined o TooMany b = tt
 limited-joined o (Is c l) TooMany = tt
-limited-joined false (Is c l) (Is d m) = limited-caps (c + d) (l + m) (withinLimits (c + d) (l + m)) (cap-is (c + d) (l + m))
-limited-joined true (Is c l) (Is d m) = limited-caps (c * d) (l * d + m * c) (withinLimits (c * d) (l * d + m * c)) (cap-is (c * d) (l * d + m * c))
+limited-joined false (Is c l) (Is d m) = limited-says (c + d) (l + m) (withinLimits (c + d) (l + m)) (limits-say (c + d) (l + m))
+limited-joined true (Is c l) (Is d m) = limited-says (c * d) (l * d + m * c) (withinLimits (c * d) (l * d + m * c)) (limits-say (c * d) (l * d + m * c))
 
 pub limited-is : {s : Size} {c l : ℕ} → s ≡ Is c l → Limited s → (c ≤ clausesMax) × (l ≤ literalsMax)
 limited-is e h = subst Limited e h
@@ -106,20 +107,22 @@ module _ (c l d m : ℕ) (hc : 0 < c) (hd : 0 < d) where
   right-literals false = omega arith
   right-literals true = omega (arith, le-mul-of-pos-right m hc)
 
-  join-capped : (o : Bool) → joinSizes o (withinLimits c l) (withinLimits d m) ≡ withinLimits (clausesOf o c d) (literalsOf o c l d m)
+  join-within-limits : (o : Bool) → joinSizes o (withinLimits c l) (withinLimits d m) ≡ withinLimits (clausesOf o c d) (literalsOf o c l d m)
   unfolding joinSizes withinLimits
-  join-capped o = go (leb c clausesMax) (leb l literalsMax) (leb d clausesMax) (leb m literalsMax) refl refl refl refl
+  join-within-limits o = go (leb c clausesMax) (leb l literalsMax) (leb d clausesMax) (leb m literalsMax) refl refl refl refl
     where
       last : (q : Bool) → joinSizes q (Is c l) (Is d m) ≡ withinLimits (clausesOf q c d) (literalsOf q c l d m)
       last false = refl
       last true = refl
 
       go : (p q r s : Bool) → leb c clausesMax ≡ p → leb l literalsMax ≡ q → leb d clausesMax ≡ r → leb m literalsMax ≡ s
-          → joinSizes o (pick p (pick q (Is c l) TooMany) TooMany) (pick r (pick s (Is d m) TooMany) TooMany) ≡ withinLimits (clausesOf o c d) (literalsOf o c l d m)
+          → joinSizes o (pick p (pick q (Is c l) TooMany) TooMany) (pick r (pick s (Is d m) TooMany) TooMany)
+          ≡ withinLimits (clausesOf o c d) (literalsOf o c l d m)
       go false q r s ep eq er es = sym (many-clauses (clausesOf o c d) (literalsOf o c l d m) (omega (arith, left-clauses o, leb-false c clausesMax ep)))
       go true false r s ep eq er es = sym (many-literals (clausesOf o c d) (literalsOf o c l d m) (omega (arith, left-literals o, leb-false l literalsMax eq)))
       go true true false s ep eq er es = sym (many-clauses (clausesOf o c d) (literalsOf o c l d m) (omega (arith, right-clauses o, leb-false d clausesMax er)))
-      go true true true false ep eq er es = sym (many-literals (clausesOf o c d) (literalsOf o c l d m) (omega (arith, right-literals o, leb-false m literalsMax es)))
+      go true true true false ep eq er es =
+          sym (many-literals (clausesOf o c d) (literalsOf o c l d m) (omega (arith, right-literals o, leb-false m literalsMax es)))
       go true true true true ep eq er es = last o
 
 -- ---- two lists together
@@ -170,4 +173,4 @@ clauses-some g (negate r l a) = clauses-some (not g) a
 pub size-join : (o : Bool) (xs ys : List (List Literal)) → 0 < length xs → 0 < length ys → joinSizes o (sizeOf xs) (sizeOf ys) ≡ sizeOf (join o xs ys)
 unfolding sizeOf
 size-join o xs ys h k =
-    join-capped (length xs) (total xs) (length ys) (total ys) h k o ∙ ap₂ withinLimits (sym (length-join o xs ys)) (sym (total-join o xs ys))
+    join-within-limits (length xs) (total xs) (length ys) (total ys) h k o ∙ ap₂ withinLimits (sym (length-join o xs ys)) (sym (total-join o xs ys))

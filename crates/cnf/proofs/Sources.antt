@@ -54,7 +54,7 @@ module _ {l : List ℕ} {r : ℕ} (g : Bool) {s k : Shape} (h : Sound l r) (e : 
   pub source-by-shape : sourceAt l r g ≡ sourceOf s r g (sourceAt l)
   source-by-shape = source-step l r g h ∙ ap (λ (q : Shape). sourceOf q r g (sourceAt l)) (sym e ∙ f)
 
--- ---- what a part says
+-- ---- what a source says
 
 abbrev pub SourceIs : List ℕ → ℕ → Bool → Source → Type 0
 SourceIs l r g (Atom q h) = (q ≤ r) × (clauses g (treeAt l r) ≡ (literal h (treeAt l q) ∷ []) ∷ [])
@@ -85,7 +85,8 @@ source-to : (l : List ℕ) (f r : ℕ) (g : Bool) → Sound l r → r < f → So
 unfolding sourceTo
 source-to l zero r g h p = absurd (omega arith)
 source-to l (suc f) r g h p =
-    shape-is l r g (shapeAt l r) (rowAt l r) (h .falls r (omega arith)) (tree-step h) (sourceTo l f) (λ x k b. source-to l f x k (sound-below x h (omega arith)) (omega arith))
+    shape-is l r g (shapeAt l r) (rowAt l r) (h .falls r (omega arith)) (tree-step h) (sourceTo l f)
+    (λ x k b. source-to l f x k (sound-below x h (omega arith)) (omega arith))
 
 pub source-is : {l : List ℕ} {r : ℕ} (g : Bool) {v w : Source} → Sound l r → v ≡ sourceAt l r g → v ≡ w → SourceIs l r g w
 unfolding sourceAt

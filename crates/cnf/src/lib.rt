@@ -58,7 +58,7 @@ pub fn past_nots(rows: &[u64], start: usize, negated: bool) -> Source
     }
 }
 
-// c clauses with l literals in all, or too many.
+// Answers c clauses with l literals in all, or that these are too many.
 fn within_limits(c: u32, l: u32) -> Size
     ensures { λ s. ⌜ s ≡ withinLimits c l ⌝ }
 {
@@ -71,7 +71,7 @@ fn within_limits(c: u32, l: u32) -> Size
     Size::TooMany
 }
 
-// The size of two lists joined, from their sizes.
+// Answers the size of two lists joined, from their sizes.
 pub fn join_sizes(crosswise: bool, a: Size, b: Size) -> Size
     requires { ⌜ Limited a × Limited b ⌝ }
     ensures { λ s. ⌜ s ≡ joinSizes crosswise a b ⌝ }
@@ -88,7 +88,7 @@ pub fn join_sizes(crosswise: bool, a: Size, b: Size) -> Size
     within_limits(c + d, l + m)
 }
 
-// The size of the clause list of row r, read plainly or negated.
+// Counts the clauses of row r, read plainly or negated, and their literals.
 pub fn count_clauses(rows: &[u64], r: usize, negated: bool) -> Size
     requires { ⌜ Sound (now rows) r ⌝ }
     ensures { λ s. ⌜ s ≡ sizeOf (clauses negated (treeAt (now (rows .entry)) r)) ⌝ }
@@ -103,7 +103,7 @@ pub fn count_clauses(rows: &[u64], r: usize, negated: bool) -> Size
     }
 }
 
-// The same of row `root` joined with a list of size `last`. Left sides that are joined the same way are counted in the next turn, so that a long AND
+// Counts those of row `root` joined with a list of size `last`. Left sides that are joined the same way are counted in the next turn, so that a long AND
 // or OR is no deep nesting.
 fn count_left_spine(rows: &[u64], root: usize, negated: bool, crosswise: bool, last: Size) -> Size
     requires { ⌜ Sound (now rows) root × Limited last ⌝ }

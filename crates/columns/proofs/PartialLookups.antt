@@ -1,5 +1,5 @@
--- The lookup that literals make one after the other: its cases, two parts of a clause, how many valueCount there can be, and that what a whole clause makes says
--- whether it is a lookup, on which column, with how many valueCount, and which one is number n (`partial-of-clause`).
+-- The lookup that literals make one after the other: its cases, two parts of a clause, how many values there can be, and that what a whole clause makes
+-- says whether it is a lookup, on which column, with how many values, and which one is number n (`partial-of-clause`).
 -- Assumes nothing.
 use mathlib.Core.Path.{_≡_, refl, sym, ap, ap₂, _∙_}
 use Prim.Native.Nat.{ℕ, zero, suc, _+_, _≤_}
@@ -14,7 +14,8 @@ use Rattle.values.specs.declared.Constant.{Constant}
 use Rattle.predicate.specs.Tree.{Tree}
 use Rattle.cnf.specs.Clause.{literal}
 use Rattle.values.specs.Value.{valueOf, isUndefined}
-use Rattle.columns.specs.Lookup.{testOf, literalTest, testsColumn, allTestColumn, valueIn, valuesIn, ClauseLookup, on, none, lookupOn, lookupFrom, lookupIn}
+use Rattle.columns.specs.Lookup.{testOf, literalTest, testsColumn, allTestColumn, valueIn, valuesIn}
+use Rattle.columns.specs.Lookup.{ClauseLookup, on, none, lookupOn, lookupFrom, lookupIn}
 use Rattle.columns.specs.Partial.{valueList, withValue, fromFirst, withTest, withTests, valueCount}
 use Rattle.columns.specs.declared.test.Test.{Test}
 use Rattle.columns.specs.declared.test.Test.the-variants.{Other, Equals, Is}
@@ -64,18 +65,18 @@ module _ {t : Test} where
 
 -- ---- its cases
 
-module _ (n c so : ℕ) (v : Value) {s : TestValue} {vs : List Value} (is : valueList s ≡ vs) where
-  pub with-no-value : s ≡ testValue.Nothing → OnColumn c so v ≡ withValue n c so v vs
+module _ (n c many : ℕ) (v : Value) {s : TestValue} {vs : List Value} (is : valueList s ≡ vs) where
+  pub with-no-value : s ≡ testValue.Nothing → OnColumn c many v ≡ withValue n c many v vs
   unfolding withValue valueList
   with-no-value e = rw (← is, e)
 
-  pub with-wanted-value : {u : Value} → s ≡ testValue.One u → so ≡ n → OnColumn c (so + 1) u ≡ withValue n c so v vs
+  pub with-wanted-value : {u : Value} → s ≡ testValue.One u → many ≡ n → OnColumn c (many + 1) u ≡ withValue n c many v vs
   unfolding withValue valueList
-  with-wanted-value e f = rw (← is, e, eq-eqb so n f, withValue)
+  with-wanted-value e f = rw (← is, e, eq-eqb many n f, withValue)
 
-  pub with-other-value : {u : Value} → s ≡ testValue.One u → (so ≡ n → ⊥) → OnColumn c (so + 1) v ≡ withValue n c so v vs
+  pub with-other-value : {u : Value} → s ≡ testValue.One u → (many ≡ n → ⊥) → OnColumn c (many + 1) v ≡ withValue n c many v vs
   unfolding withValue valueList
-  with-other-value e f = rw (← is, e, ne-eqb so n f, withValue)
+  with-other-value e f = rw (← is, e, ne-eqb many n f, withValue)
 
 module _ (n : ℕ) (t : Test) {g : PartialLookup} where
   pub test-first : g ≡ Empty → fromFirst n t ≡ withTest n g t
@@ -86,8 +87,8 @@ module _ (n : ℕ) (t : Test) {g : PartialLookup} where
   unfolding withTest
   test-after-none e = sym (ap (λ (k : PartialLookup). withTest n k t) e)
 
-  module _ {c so : ℕ} {v : Value} (e : g ≡ OnColumn c so v) where
-    pub test-same-column : testsColumn c t ≡ true → withValue n c so v (valueIn t) ≡ withTest n g t
+  module _ {c many : ℕ} {v : Value} (e : g ≡ OnColumn c many v) where
+    pub test-same-column : testsColumn c t ≡ true → withValue n c many v (valueIn t) ≡ withTest n g t
     unfolding withTest
     test-same-column f = sym (ap (λ (k : PartialLookup). withTest n k t) e ∙ rw (f, withTest))
 
@@ -95,7 +96,7 @@ module _ (n : ℕ) (t : Test) {g : PartialLookup} where
     unfolding withTest
     test-other-column f = sym (ap (λ (k : PartialLookup). withTest n k t) e ∙ rw (f, withTest))
 
-    pub value-count-on : valueCount g ≡ so
+    pub value-count-on : valueCount g ≡ many
     unfolding valueCount
     value-count-on = ap valueCount e
 
@@ -114,12 +115,12 @@ unfolding withTests
 tests-append n g [] us = refl
 tests-append n g (t ∷ ts) us = tests-append n (withTest n g t) ts us
 
--- ---- how much can be gathered
+-- ---- how many values there can be
 
-value-counts-one : (n c so : ℕ) (v : Value) (us : List Value) → valueCount (withValue n c so v us) ≤ so + 1
+value-counts-one : (n c many : ℕ) (v : Value) (us : List Value) → valueCount (withValue n c many v us) ≤ many + 1
 unfolding withValue valueCount
-value-counts-one n c so v [] = omega arith
-value-counts-one n c so v (u ∷ us) = omega arith
+value-counts-one n c many v [] = omega arith
+value-counts-one n c many v (u ∷ us) = omega arith
 
 test-counts-one : (n : ℕ) (g : PartialLookup) (t : Test) → valueCount (withTest n g t) ≤ valueCount g + 1
 unfolding withTest valueCount fromFirst
@@ -127,10 +128,10 @@ test-counts-one n Empty Other = omega arith
 test-counts-one n Empty (Equals c w) = omega (arith, value-counts-one n c 0 value.Null (valueIn (Equals c w)))
 test-counts-one n Empty (Is c y) = omega (arith, value-counts-one n c 0 value.Null (valueIn (Is c y)))
 test-counts-one n NotLookup t = omega arith
-test-counts-one n (OnColumn c so v) t = by (testsColumn c t)
+test-counts-one n (OnColumn c many v) t = by (testsColumn c t)
   where
-    by : (b : Bool) → valueCount (elim b [ true ↦ withValue n c so v (valueIn t) | false ↦ NotLookup ]) ≤ so + 1
-    by true = value-counts-one n c so v (valueIn t)
+    by : (b : Bool) → valueCount (elim b [ true ↦ withValue n c many v (valueIn t) | false ↦ NotLookup ]) ≤ many + 1
+    by true = value-counts-one n c many v (valueIn t)
     by false = omega arith
 
 pub tests-count : (n : ℕ) (g : PartialLookup) (ts : List Test) → valueCount (withTests n g ts) ≤ valueCount g + length ts
@@ -140,7 +141,7 @@ tests-count n g (t ∷ ts) = omega (arith, test-counts-one n g t, tests-count n 
 
 -- ---- a whole clause
 
--- what is gathered where the valueCount so far are vs
+-- a lookup whose values so far are vs
 abbrev so-far : ℕ → ℕ → List Value → PartialLookup
 so-far n c vs = OnColumn c (length vs) (getD vs n value.Null)
 
@@ -177,7 +178,7 @@ unfolding withTests withTest
 tests-after-none n [] = refl
 tests-after-none n (t ∷ ts) = tests-after-none n ts
 
--- after valueCount vs of column c
+-- and with more literals
 abbrev goes-on : ℕ → ℕ → List Value → List Test → Bool → PartialLookup
 goes-on n c vs ts true = so-far n c (vs ++ valuesIn ts)
 goes-on n c vs ts false = NotLookup
@@ -197,19 +198,22 @@ tests-rest n c vs (t ∷ ts) = by (testsColumn c t) (tests-rest n c (vs ++ value
         same false = refl
     by false h = tests-after-none n ts
 
--- what a lookup is gathered to
+-- the lookup that a clause makes
 unfoldable pub partialOf : ℕ → ClauseLookup → PartialLookup
 partialOf n (on c vs) = so-far n c vs
 partialOf n none = NotLookup
 
-tests-of-column : (n c : ℕ) (t : Test) (ts : List Test) → testsColumn c t ≡ true → withTests n (withValue n c 0 value.Null (valueIn t)) ts ≡ partialOf n (lookupOn c (t ∷ ts))
+tests-of-column : (n c : ℕ) (t : Test) (ts : List Test) → testsColumn c t ≡ true →
+    withTests n (withValue n c 0 value.Null (valueIn t)) ts ≡ partialOf n (lookupOn c (t ∷ ts))
 unfolding partialOf lookupOn allTestColumn valuesIn
 tests-of-column n c t ts e =
     ap (λ (g : PartialLookup). withTests n g ts) (value-appended n c [] (valueIn t) (value-short t))
     ∙ tests-rest n c (valueIn t) ts
     ∙ by (allTestColumn c ts) refl
   where
-    by : (b : Bool) → allTestColumn c ts ≡ b → goes-on n c (valueIn t) ts b ≡ partialOf n (elim (testsColumn c t && allTestColumn c ts) [ true ↦ on c (valueIn t ++ valuesIn ts) | false ↦ none ])
+    by : (b : Bool) → allTestColumn c ts ≡ b →
+        goes-on n c (valueIn t) ts b
+        ≡ partialOf n (elim (testsColumn c t && allTestColumn c ts) [ true ↦ on c (valueIn t ++ valuesIn ts) | false ↦ none ])
     by true f = rw (e, f)
     by false f = rw (e, f)
 

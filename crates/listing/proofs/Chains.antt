@@ -1,5 +1,5 @@
--- Chains of cells. A chain is its first cell and the chain after that (`chain-step`), and is as it was while only new cells are made (`chain-kept`);
--- the loops of `put` (`prepended-none`, `prepended-more`, `prepended-all`) and the halves of `copy` (`copied-none`, `copied-one`, `copied-halves`).
+-- Chains of cells. A chain is its first cell and the chain after that (`chain-step`), and is as it was while only new cells are made (`chain-unchanged`);
+-- the loop of `prepend` (`prepended-none`, `prepended-more`, `prepended-all`) and the halves of `copy_heads` (`copied-none`, `copied-one`, `copied-halves`).
 -- Assumes nothing.
 use Prim.Native.Nat.{ℕ, zero, suc, _+_, _*_, _-_, _<_, _≤_}
 use mathlib.Core.Path.{_≡_, refl, sym, ap, ap₂, _∙_, subst}
@@ -42,20 +42,20 @@ chain-step u (suc h) s p =
     ap (λ (c : List ℕ). getD u (2 * suc h) 0 ∷ c)
     (same-long u h (getD u (2 * suc h + 1) 0) (getD u (2 * suc h + 1) 0) (λ k a b. s k a (omega arith)) (omega arith) (omega arith))
 
-kept-to : (u v : List ℕ) (n f h : ℕ) → CellsMade u n → ((i : ℕ) → 0 < i → i < 2 * n → getD v i 0 ≡ getD u i 0) → h < n → chainTo v f h ≡ chainTo u f h
+unchanged-to : (u v : List ℕ) (n f h : ℕ) → CellsMade u n → ((i : ℕ) → 0 < i → i < 2 * n → getD v i 0 ≡ getD u i 0) → h < n → chainTo v f h ≡ chainTo u f h
 unfolding chainTo
-kept-to u v n zero h c s p = refl
-kept-to u v n (suc f) zero c s p = refl
-kept-to u v n (suc f) (suc h) c s p =
+unchanged-to u v n zero h c s p = refl
+unchanged-to u v n (suc f) zero c s p = refl
+unchanged-to u v n (suc f) (suc h) c s p =
     let z = c .falls (suc h) (omega arith) p in
     ap₂ (λ (x : ℕ) (l : List ℕ). x ∷ l) (s (2 * suc h) (omega arith) (omega arith))
-    (ap (chainTo v f) (s (2 * suc h + 1) (omega arith) (omega arith)) ∙ kept-to u v n f (getD u (2 * suc h + 1) 0) c s (omega arith))
+    (ap (chainTo v f) (s (2 * suc h + 1) (omega arith) (omega arith)) ∙ unchanged-to u v n f (getD u (2 * suc h + 1) 0) c s (omega arith))
 
-pub chain-kept : (u v : List ℕ) (n h : ℕ) → CellsMade u n → ((i : ℕ) → 0 < i → i < 2 * n → getD v i 0 ≡ getD u i 0) → h < n → chainOf v h ≡ chainOf u h
+pub chain-unchanged : (u v : List ℕ) (n h : ℕ) → CellsMade u n → ((i : ℕ) → 0 < i → i < 2 * n → getD v i 0 ≡ getD u i 0) → h < n → chainOf v h ≡ chainOf u h
 unfolding chainOf
-chain-kept u v n h c s p = kept-to u v n h h c s p
+chain-unchanged u v n h c s p = unchanged-to u v n h h c s p
 
--- ---- `put`
+-- ---- `prepend`
 
 pub prepended-none : (x : ℕ) (u d : List ℕ) (first n : ℕ) → Prepended x u u d d first 0 n n
 prepended-none x u d first n = record {
@@ -126,7 +126,8 @@ module _ {x : ℕ} {u v d e : List ℕ} {first k n m : ℕ} (p : Prepended x u v
           ∙ ap (λ (a : ℕ). getD d a 0) (sym y)
 
 -- all are done, and the next free cell is noted
-pub prepended-all : {x : ℕ} {u v d e : List ℕ} {first k each n m : ℕ} → Prepended x u v d e first k n m → k ≤ each → each ≤ k → 0 < n → {w : ℕ} → w ≡ m → 0 < length v
+pub prepended-all : {x : ℕ} {u v d e : List ℕ} {first k each n m : ℕ} → Prepended x u v d e first k n m → k ≤ each → each ≤ k → 0 < n → {w : ℕ}
+    → w ≡ m → 0 < length v
     → Prepended x u (set v 0 w) d e first each n (freeOf (set v 0 w))
 prepended-all {x} {u} {v} {d} {e} {first} {k} {each} {n} {m} p a b s {w} ew r =
     subst (λ (i : ℕ). Prepended x u (set v 0 w) d e first each n i) (sym (getD-set-same v 0 w 0 r ∙ ew)) (record {
@@ -147,8 +148,9 @@ prepended-all {x} {u} {v} {d} {e} {first} {k} {each} {n} {m} p a b s {w} ew r =
     other : (i : ℕ) → 0 < i → getD (set v 0 w) i 0 ≡ getD v i 0
     other i h = getD-set-other v 0 i w 0 (λ z. omega arith)
 
--- the cells that `put` leaves are made
-pub prepended-cells : {x : ℕ} {u v d e : List ℕ} {first each n m : ℕ} → Prepended x u v d e first each n m → CellsMade u n → HeadsAt d n first each → CellsMade v m
+-- the cells that `prepend` leaves are made
+pub prepended-cells : {x : ℕ} {u v d e : List ℕ} {first each n m : ℕ} → Prepended x u v d e first each n m → CellsMade u n → HeadsAt d n first each
+    → CellsMade v m
 prepended-cells {x} {u} {v} {d} {e} {first} {each} {n} {m} p c o = record {
   some = omega (arith, p .used, c .some);
   long = omega (arith, p .elsewhere .cells, c .long);
@@ -163,7 +165,7 @@ prepended-cells {x} {u} {v} {d} {e} {first} {each} {n} {m} p c o = record {
         let y : j < each = omega (arith, p .used) in
         omega (arith, ap (λ (i : ℕ). getD v (2 * i + 1) 0) (sym z), p .next j y, o .below j y)
 
--- ---- `copy`
+-- ---- `copy_heads`
 
 pub copied-none : (d : List ℕ) (from to : ℕ) {each : ℕ} → each ≡ 0 → Copied d d from to each
 copied-none d from to e = record { long = refl; copy = λ i h. absurd (omega arith); before = λ i h. refl; after = λ i h. refl }

@@ -1,4 +1,4 @@
--- Laws of chains, and that those of a predicate's clauses are frontier and written.
+-- Laws of chains and their heads, and that a predicate's clauses are prepended and written.
 pub mod Chains
 pub mod PrependedClauses
 pub mod SavedHeads

@@ -1,6 +1,6 @@
--- What `place` goes by. `PrependsLeft` is its loop's invariant: the row that is left has clauses to be put before the heads there are now, and once they are, those of
--- the first row are put before the heads there were first. An atom ends it (`atom-done`); two operands ask for the right one to be frontier (`save-asks`,
--- `right-asks`, `restore-asks`) and leave the left one (`goes-left`).
+-- The loop of `prepend_clauses`. `PrependsLeft` is its invariant: the row that is left has clauses to be put before the heads there are now, and once they
+-- are, those of the first row are put before the heads there were first. An atom ends it (`atom-done`); of two operands the right one's clauses are prepended
+-- (`save-asks`, `right-asks`, `restore-asks`), and the left one is left (`goes-left`).
 -- Assumes nothing.
 use Prim.Native.Nat.{ℕ, _+_, _*_, _-_, _<_, _≤_}
 use mathlib.Core.Path.{_≡_, refl, sym, _∙_, subst}
@@ -34,45 +34,51 @@ module _ {cs : List (List Literal)} (xs ys : List (List Literal)) (px : 0 < leng
 
   right-join : (o : Bool) (c : cs ≡ join o xs ys) {d' : List ℕ} {k : ℕ} → Saved o d d' first spare each k → RoomToPrepend u d' k first each n ys
   right-join true c {d'} s =
-      subst (λ (j : ℕ). RoomToPrepend u d' j first each n ys) (sym (s .1)) (subst (λ (b : List ℕ). RoomToPrepend u b spare first each n ys) (sym (s .0)) (cross-right xs ys c px f))
+      subst (λ (j : ℕ). RoomToPrepend u d' j first each n ys) (sym (s .1))
+      (subst (λ (b : List ℕ). RoomToPrepend u b spare first each n ys) (sym (s .0)) (cross-right xs ys c px f))
   right-join false c {d'} s = subst (λ (j : ℕ). RoomToPrepend u d' j first each n ys) (sym (s .1)) (append-right xs ys c px py f (s .0))
 
-  -- the right list is frontier
+  -- the right list's clauses are prepended
   abbrev Right : List ℕ → List ℕ → List ℕ → ℕ → Frontier → Type 0
   Right v d' e k p = ClausesPrepended ys u v d' e k first each n p
 
   -- at the places where the definition has it
-  right-with : {d' v e : List ℕ} {k : ℕ} {p : Frontier} → (d' ≡ d) × (k ≡ spare) → Right v d' e k p → Right v d e spare p
-  right-with {d'} {v} {e} {k} {p} s q = subst (λ (b : List ℕ). Right v b e spare p) (s .0) (subst (λ (j : ℕ). Right v d' e j p) (s .1) q)
+  right-crosswise : {d' v e : List ℕ} {k : ℕ} {p : Frontier} → (d' ≡ d) × (k ≡ spare) → Right v d' e k p → Right v d e spare p
+  right-crosswise {d'} {v} {e} {k} {p} s q = subst (λ (b : List ℕ). Right v b e spare p) (s .0) (subst (λ (j : ℕ). Right v d' e j p) (s .1) q)
 
-  right-then : {d' v e : List ℕ} {k : ℕ} {p : Frontier} → k ≡ spare + each → Right v d' e k p → Right v d' e (spare + each) p
-  right-then {d'} {v} {e} {k} {p} s q = subst (λ (j : ℕ). Right v d' e j p) s q
+  right-appended : {d' v e : List ℕ} {k : ℕ} {p : Frontier} → k ≡ spare + each → Right v d' e k p → Right v d' e (spare + each) p
+  right-appended {d'} {v} {e} {k} {p} s q = subst (λ (j : ℕ). Right v d' e j p) s q
 
   restore-join : (o : Bool) (c : cs ≡ join o xs ys) {d' v e : List ℕ} {k : ℕ} {p : Frontier} → Saved o d d' first spare each k → Right v d' e k p
       → Restores o e first spare each (p .first)
-  restore-join true c s q = let r = right-with s q in (omega (arith, r .end), omega (arith, r .end, r .heads .within))
-  restore-join false c s q = let r = right-then (s .1) q in (append-room xs ys c px py f (s .0) r, omega (arith, r .heads .within))
+  restore-join true c s q = let r = right-crosswise s q in (omega (arith, r .end), omega (arith, r .end, r .heads .within))
+  restore-join false c s q = let r = right-appended (s .1) q in (append-room xs ys c px py f (s .0) r, omega (arith, r .heads .within))
 
   left-join : (o : Bool) (c : cs ≡ join o xs ys) {d' v e e' : List ℕ} {k : ℕ} {p : Frontier} {h : Run} → Saved o d d' first spare each k → Right v d' e k p
       → Restored o e e' first spare each (p .first) h → RoomToPrepend v e' spare (h .first) (h .each) (p .free) xs
-  left-join true c {v = v} {e = e} {p = p} s q a = run (a .1) (a .2) (subst (λ (b : List ℕ). RoomToPrepend v b spare (p .first) (first + each - p .first) (p .free) xs) (sym (a .0)) (cross-left xs ys c px f (right-with s q)))
+  left-join true c {v = v} {e = e} {p = p} s q a =
+      run (a .1) (a .2)
+      (subst (λ (b : List ℕ). RoomToPrepend v b spare (p .first) (first + each - p .first) (p .free) xs) (sym (a .0))
+      (cross-left xs ys c px f (right-crosswise s q)))
     where
       run : {b : List ℕ} {i j i' j' : ℕ} → i ≡ i' → j ≡ j' → RoomToPrepend v b spare i' j' (p .free) xs → RoomToPrepend v b spare i j (p .free) xs
-      run {b} {i} {j} {i'} {j'} y z w = subst (λ (m : ℕ). RoomToPrepend v b spare m j (p .free) xs) (sym y) (subst (λ (m : ℕ). RoomToPrepend v b spare i' m (p .free) xs) (sym z) w)
+      run {b} {i} {j} {i'} {j'} y z w =
+          subst (λ (m : ℕ). RoomToPrepend v b spare m j (p .free) xs) (sym y) (subst (λ (m : ℕ). RoomToPrepend v b spare i' m (p .free) xs) (sym z) w)
   left-join false c {v = v} {e' = e'} {p = p} {h = h} s q a =
       subst (λ (m : ℕ). RoomToPrepend v e' spare m (h .each) (p .free) xs) (sym (a .1))
-      (subst (λ (m : ℕ). RoomToPrepend v e' spare (p .first - each) m (p .free) xs) (sym (a .2)) (append-left xs ys c px py f (s .0) (right-then (s .1) q) (a .0)))
+      (subst (λ (m : ℕ). RoomToPrepend v e' spare (p .first - each) m (p .free) xs) (sym (a .2))
+      (append-left xs ys c px py f (s .0) (right-appended (s .1) q) (a .0)))
 
   done-join : (o : Bool) (c : cs ≡ join o xs ys) {d' v e e' : List ℕ} {k : ℕ} {p : Frontier} {h : Run} → Saved o d d' first spare each k → Right v d' e k p
       → Restored o e e' first spare each (p .first) h
       → {w b : List ℕ} {z : Frontier} → ClausesPrepended xs v w e' b spare (h .first) (h .each) (p .free) z → ClausesPrepended cs u w d b spare first each n z
   done-join true c {v = v} {e = e} {e' = e'} {p = p} {h = h} s q a {w} {b} {z} t =
-      cross-done xs ys c px f (right-with s q)
+      cross-done xs ys c px f (right-crosswise s q)
       (subst (λ (l : List ℕ). ClausesPrepended xs v w l b spare (p .first) (first + each - p .first) (p .free) z) (a .0)
       (subst (λ (m : ℕ). ClausesPrepended xs v w e' b spare m (first + each - p .first) (p .free) z) (a .1)
       (subst (λ (m : ℕ). ClausesPrepended xs v w e' b spare (h .first) m (p .free) z) (a .2) t)))
   done-join false c {v = v} {e = e} {e' = e'} {p = p} {h = h} s q a {w} {b} {z} t =
-      append-done xs ys c px py f (s .0) (right-then (s .1) q) (a .0)
+      append-done xs ys c px py f (s .0) (right-appended (s .1) q) (a .0)
       (subst (λ (m : ℕ). ClausesPrepended xs v w e' b spare m each (p .free) z) (a .1)
       (subst (λ (m : ℕ). ClausesPrepended xs v w e' b spare (h .first) m (p .free) z) (a .2) t))
 
@@ -87,7 +93,8 @@ pub record PrependsLeft (l u v d e : List ℕ) (spare at many used root first ea
   pub cells : length v ≡ length u
   pub heads : length e ≡ length d
 
-pub prepends-all : {l u d : List ℕ} {spare at many used root : ℕ} (sign : Bool) → Sound l root → RoomToPrepend u d spare at many used (clauses sign (treeAt l root))
+pub prepends-all : {l u d : List ℕ} {spare at many used root : ℕ} (sign : Bool) → Sound l root
+    → RoomToPrepend u d spare at many used (clauses sign (treeAt l root))
     → PrependsLeft l u u d d spare at many used root at many used root sign sign
 prepends-all sign s f = record { sound = s; under = omega arith; fits = f; done = λ t. t; cells = refl; heads = refl }
 
@@ -106,7 +113,9 @@ module _ {l u v d e : List ℕ} {spare at many used root first each free r : ℕ
 
     pub atom-done : {w b : List ℕ} {x m : ℕ} → x ≡ 2 * q + bit k → Prepended x v w e b first each free m
         → ClausesPrepended (clauses sign (treeAt l root)) u w d b spare at many used (record { free = m; first = first })
-    atom-done y t = let z = source-is neg (p .sound) i c in p .done (atom-prepended (literal k (treeAt l q)) (z .1) (y ∙ sym (literal-number-at l q k)) t (p .fits))
+    atom-done y t =
+        let z = source-is neg (p .sound) i c in
+        p .done (atom-prepended (literal k (treeAt l q)) (z .1) (y ∙ sym (literal-number-at l q k)) t (p .fits))
 
   -- two operands
   module _ {x y : ℕ} {k o : Bool} (c : v' ≡ Joined x y k o) where

@@ -1,5 +1,5 @@
--- ClausesPrepended, arm by arm: an atom's literal is put before each chain (`atom-prepended`); the clauses of one list after the other (`then-..`), with the heads
--- kept aside while the second list is frontier; and each with each (`with-..`).
+-- Clauses put before chains: an atom's literal is put before each chain (`atom-prepended`); the clauses of one list after the other (`append-..`), with the
+-- heads saved while those of the right list are prepended; and each with each (`cross-..`).
 -- Assumes nothing.
 use Prim.Native.Nat.{ℕ, _+_, _*_, _-_, _<_, _≤_}
 use mathlib.Core.Path.{_≡_, sym, ap, ap₂, _∙_, subst}
@@ -15,12 +15,13 @@ use Rattle.listing.specs.Heads.{Prepended, CopySafe, Copied}
 use Rattle.listing.specs.Listing.{RoomToPrepend, ClausesPrepended, Frontier}
 use Rattle.cnf.proofs.Crossing.{get-before, before, cross-append, cross-cross, cross-one}
 use Rattle.cnf.proofs.Sizes.{length-cross, total-append, total-cross}
-use Rattle.listing.proofs.Chains.{chain-step, chain-kept, prepended-cells}
+use Rattle.listing.proofs.Chains.{chain-step, chain-unchanged, prepended-cells}
 
 -- ---- an atom
 
 pub atom-prepended : (x : Literal) {cs : List (List Literal)} {n' : ℕ} {u v d e : List ℕ} {spare first each n m : ℕ} → cs ≡ (x ∷ []) ∷ [] → n' ≡ literalNumber x
-    → Prepended n' u v d e first each n m → RoomToPrepend u d spare first each n cs → ClausesPrepended cs u v d e spare first each n (record { free = m; first = first })
+    → Prepended n' u v d e first each n m → RoomToPrepend u d spare first each n cs
+    → ClausesPrepended cs u v d e spare first each n (record { free = m; first = first })
 atom-prepended x {cs} {n'} {u} {v} {d} {e} {spare} {first} {each} {n} {m} c ex p f' =
     subst (λ (zs : List (List Literal)). ClausesPrepended zs u v d e spare first each n (record { free = m; first = first })) (sym c) (record {
       end = omega arith;
@@ -48,13 +49,14 @@ atom-prepended x {cs} {n'} {u} {v} {d} {e} {spare} {first} {each} {n} {m} c ex p
     made : CellsMade v m
     made = prepended-cells p (f .cells) (f .heads)
 
-    one : (ps : List (List Literal)) → length ps ≡ each → ChainsSpell u d first ps → (i : ℕ) → i < length ps → chainOf v (getD e (first + i) 0) ≡ literalNumber x ∷ map literalNumber (getD ps i [])
+    one : (ps : List (List Literal)) → length ps ≡ each → ChainsSpell u d first ps → (i : ℕ) → i < length ps
+        → chainOf v (getD e (first + i) 0) ≡ literalNumber x ∷ map literalNumber (getD ps i [])
     one ps l o i q =
         let y : i < each = omega arith in
         ap (chainOf v) (p .heads i y)
         ∙ chain-step v (n + i) (λ k a b. made .falls k a (omega (arith, p .used))) (omega (arith, f .cells .some))
         ∙ ap₂ (λ (z : ℕ) (t : List ℕ). z ∷ t) (p .here i y ∙ ex)
-        (ap (chainOf v) (p .next i y) ∙ chain-kept u v n (getD d (first + i) 0) (f .cells) (p .elsewhere .old) (f .heads .below i y) ∙ o .chain i q)
+        (ap (chainOf v) (p .next i y) ∙ chain-unchanged u v n (getD d (first + i) 0) (f .cells) (p .elsewhere .old) (f .heads .below i y) ∙ o .chain i q)
 
 -- ---- one list after the other
 
@@ -66,7 +68,7 @@ module _ {cs : List (List Literal)} (xs ys : List (List Literal)) (c : cs ≡ xs
   all-clauses : length cs * each ≡ length xs * each + length ys * each
   all-clauses = ap (λ (k : ℕ). k * each) (ap length c ∙ length-append xs ys) ∙ omega arith
 
-  -- the heads fit twice, and the place where they are kept is before them
+  -- the heads fit twice, and the place where they are saved is before them
   pub append-saved : spare + each ≤ first
   append-saved = omega (arith, f .space, all-clauses, le-mul-of-pos-right each px, le-mul-of-pos-right each py)
 
@@ -89,9 +91,9 @@ module _ {cs : List (List Literal)} (xs ys : List (List Literal)) (c : cs ≡ xs
       pub append-room : spare + each ≤ p .first
       append-room = omega (arith, q .end, f .space, all-clauses, le-mul-of-pos-right each px)
 
-      -- the heads are still kept
-      kept : (i : ℕ) → i < each → getD e (spare + i) 0 ≡ getD d (first + i) 0
-      kept i h = q .elsewhere .before (spare + i) (omega arith) ∙ s .copy i h
+      -- the heads are still saved
+      saved : (i : ℕ) → i < each → getD e (spare + i) 0 ≡ getD d (first + i) 0
+      saved i h = q .elsewhere .before (spare + i) (omega arith) ∙ s .copy i h
 
       pub append-restore-asks : CopySafe spare (p .first - each) each × (spare + each ≤ length e) × (p .first - each + each ≤ length e)
       append-restore-asks = (
@@ -101,26 +103,30 @@ module _ {cs : List (List Literal)} (xs ys : List (List Literal)) (c : cs ≡ xs
       )
 
       module _ {e' : List ℕ} (b : Copied e e' spare (p .first - each) each) where
-        -- the heads that were kept stand directly before those of the second list
-        again : (i : ℕ) → i < each → getD e' (p .first - each + i) 0 ≡ getD d (first + i) 0
-        again i h = b .copy i h ∙ kept i h
+        -- the heads that were saved stand directly before those of the second list
+        restored : (i : ℕ) → i < each → getD e' (p .first - each + i) 0 ≡ getD d (first + i) 0
+        restored i h = b .copy i h ∙ saved i h
 
         pub append-left : RoomToPrepend v e' spare (p .first - each) each (p .free) xs
         append-left = record {
           cells = q .cells;
           heads = record {
             within = omega (arith, b .long, append-restore-asks .2);
-            below = λ i h. omega (arith, again i h, f .heads .below i h, q .elsewhere .more);
+            below = λ i h. omega (arith, restored i h, f .heads .below i h, q .elsewhere .more);
           };
           room = omega (arith, f .room, all-literals, q .used, q .elsewhere .cells);
           space = omega (arith, f .space, all-clauses, q .end, append-room);
         }
 
-        pub append-done : {w a : List ℕ} {z : Frontier} → ClausesPrepended xs v w e' a spare (p .first - each) each (p .free) z → ClausesPrepended cs u w d a spare first each n z
+        pub append-done : {w a : List ℕ} {z : Frontier} → ClausesPrepended xs v w e' a spare (p .first - each) each (p .free) z
+            → ClausesPrepended cs u w d a spare first each n z
         append-done {w} {a} {z} r = record {
           end = omega (arith, r .end, q .end, all-clauses, append-room);
           cells = r .cells;
-          heads = record { within = omega (arith, after-all, f .heads .within, r .end, q .end, all-clauses, append-room); below = λ i h. heads-go i h (decLt i (length xs * each)) };
+          heads = record {
+            within = omega (arith, after-all, f .heads .within, r .end, q .end, all-clauses, append-room);
+            below = λ i h. heads-go i h (decLt i (length xs * each));
+          };
           used = omega (arith, q .used, r .used, all-literals);
           elsewhere = record {
             more = omega (arith, q .elsewhere .more, r .elsewhere .more);
@@ -142,21 +148,23 @@ module _ {cs : List (List Literal)} (xs ys : List (List Literal)) (c : cs ≡ xs
             after-all = r .elsewhere .heads ∙ b .long ∙ q .elsewhere .heads ∙ s .long
 
             -- the second list's heads are as they were
-            right-kept : (i : ℕ) → getD a (p .first + i) 0 ≡ getD e (p .first + i) 0
-            right-kept i = r .elsewhere .after (p .first + i) (omega (arith, append-room)) ∙ b .after (p .first + i) (omega (arith, append-room))
+            right-unchanged : (i : ℕ) → getD a (p .first + i) 0 ≡ getD e (p .first + i) 0
+            right-unchanged i = r .elsewhere .after (p .first + i) (omega (arith, append-room)) ∙ b .after (p .first + i) (omega (arith, append-room))
 
             heads-go : (i : ℕ) → i < length cs * each → Dec (i < length xs * each) → getD a (z .first + i) 0 < z .free
             heads-go i h (yes g) = r .heads .below i g
             heads-go i h (no g) =
                 let j = i - length xs * each in
                 let y : z .first + i ≡ p .first + j = omega (arith, r .end, append-room) in
-                omega (arith, ap (λ (k : ℕ). getD a k 0) y, right-kept j, q .heads .below j (omega (arith, all-clauses)), r .elsewhere .more)
+                omega (arith, ap (λ (k : ℕ). getD a k 0) y, right-unchanged j, q .heads .below j (omega (arith, all-clauses)), r .elsewhere .more)
 
             left : (ps : List (List Literal)) → length ps ≡ each → ChainsSpell u d first ps → ChainsSpell w a (z .first) (cross xs ps)
             left ps l o = r .spells ps l (record {
               chain = λ i h.
                   let y : i < each = omega arith in
-                  ap (chainOf v) (again i y) ∙ chain-kept u v n (getD d (first + i) 0) (f .cells) (q .elsewhere .old) (f .heads .below i y) ∙ o .chain i h;
+                  ap (chainOf v) (restored i y)
+                  ∙ chain-unchanged u v n (getD d (first + i) 0) (f .cells) (q .elsewhere .old) (f .heads .below i y)
+                  ∙ o .chain i h;
             })
 
             right : (ps : List (List Literal)) → length ps ≡ each → ChainsSpell u d first ps → ChainsSpell v e (p .first) (cross ys ps)
@@ -180,8 +188,8 @@ module _ {cs : List (List Literal)} (xs ys : List (List Literal)) (c : cs ≡ xs
                     let x : length (cross xs ps) + j ≡ i = omega arith in
                     let k : j < length (cross ys ps) = omega (arith, length-append (cross xs ps) (cross ys ps)) in
                     ap (λ (m : ℕ). chainOf w (getD a m 0)) y
-                    ∙ ap (chainOf w) (right-kept j)
-                    ∙ chain-kept v w (p .free) (getD e (p .first + j) 0) (q .cells) (r .elsewhere .old) (q .heads .below j (omega (arith, ly)))
+                    ∙ ap (chainOf w) (right-unchanged j)
+                    ∙ chain-unchanged v w (p .free) (getD e (p .first + j) 0) (q .cells) (r .elsewhere .old) (q .heads .below j (omega (arith, ly)))
                     ∙ right ps l o .chain j k
                     ∙ ap (map literalNumber) (sym (getD-append-add (cross xs ps) (cross ys ps) j []))
                     ∙ ap (λ (m : ℕ). map literalNumber (getD (cross xs ps ++ cross ys ps) m [])) x
@@ -216,7 +224,8 @@ module _ {cs : List (List Literal)} (xs ys : List (List Literal)) (c : cs ≡ cr
       space = omega (arith, f .space, every-clause, q .end);
     })
 
-    pub cross-done : {w a : List ℕ} {z : Frontier} → ClausesPrepended xs v w e a spare (p .first) (first + each - p .first) (p .free) z → ClausesPrepended cs u w d a spare first each n z
+    pub cross-done : {w a : List ℕ} {z : Frontier} → ClausesPrepended xs v w e a spare (p .first) (first + each - p .first) (p .free) z
+        → ClausesPrepended cs u w d a spare first each n z
     cross-done {w} {a} {z} r' = record {
       end = omega (arith, r .end, q .end, every-clause);
       cells = r .cells;

@@ -1,4 +1,4 @@
--- What `keep` and `again` ask and do, in each of their two cases.
+-- What `save_heads` and `restore_heads` ask and do, in each of their two cases.
 -- Assumes nothing.
 use Prim.Native.Nat.{ℕ, _+_, _-_, _≤_}
 use mathlib.Core.Path.{_≡_, refl, sym, subst}
@@ -25,7 +25,8 @@ module _ {o : Bool} (d : List ℕ) (first spare each : ℕ) where
     restore-all-asks e k = subst (λ (b : Bool). Restores b d first spare each right) e k
 
     pub restored-all : o ≡ true → Restored o d d first spare each right (record { first = right; each = first + each - right })
-    restored-all e = subst (λ (b : Bool). Restored b d d first spare each right (record { first = right; each = first + each - right })) (sym e) (refl, refl, refl)
+    restored-all e =
+        subst (λ (b : Bool). Restored b d d first spare each right (record { first = right; each = first + each - right })) (sym e) (refl, refl, refl)
 
     pub restore-asks : o ≡ false → Restores o d first spare each right
         → (spare + each ≤ right) × CopySafe spare (right - each) each × (spare + each ≤ length d) × (right - each + each ≤ length d)
@@ -33,5 +34,7 @@ module _ {o : Bool} (d : List ℕ) (first spare each : ℕ) where
         let z : (spare + each ≤ right) × (right ≤ length d) = subst (λ (b : Bool). Restores b d first spare each right) e k in
         (z .0, record { apart = λ i j a b g. omega arith }, omega arith, omega arith)
 
-    pub restored-saved : {d' : List ℕ} → o ≡ false → Copied d d' spare (right - each) each → Restored o d d' first spare each right (record { first = right - each; each = each })
-    restored-saved {d'} e c = subst (λ (b : Bool). Restored b d d' first spare each right (record { first = right - each; each = each })) (sym e) (c, refl, refl)
+    pub restored-saved : {d' : List ℕ} → o ≡ false → Copied d d' spare (right - each) each
+        → Restored o d d' first spare each right (record { first = right - each; each = each })
+    restored-saved {d'} e c =
+        subst (λ (b : Bool). Restored b d d' first spare each right (record { first = right - each; each = each })) (sym e) (c, refl, refl)

@@ -23,7 +23,7 @@ pub struct Run {
     pub each: usize,
 }
 
-// The number of a literal: twice its row, plus 1 if negated.
+// Answers the number of a literal: twice its row, plus 1 if negated.
 pub fn literal_number(r: usize, negated: bool) -> u16
     requires { ⌜ r < rowsMax ⌝ }
     ensures { λ n. ⌜ n ≡ 2 * r + bit negated ⌝ }
@@ -79,8 +79,8 @@ fn copy_heads(heads: &mut [u32], from: usize, to: usize, each: usize)
     copy_heads(heads, from, to, half);
 }
 
-// Before the clauses of the right one of two rows are prepended: saves the heads that stand from place `first` on, from place `spare` on, unless the two
-// lists are joined crosswise. Returns the place from which on is free.
+// Saves the heads that stand from place `first` on to place `spare` on, before the clauses of the right one of two rows are prepended; none where the two
+// lists are joined crosswise. Answers the place from which on is free.
 fn save_heads(heads: &mut [u32], crosswise: bool, first: usize, spare: usize, each: usize) -> usize
     requires { ⌜ Saves crosswise (now heads) first spare each ⌝ }
     ensures { λ k. ⌜ Saved crosswise (now (heads .entry)) (now (heads .exit)) first spare each k ⌝ }
@@ -92,8 +92,8 @@ fn save_heads(heads: &mut [u32], crosswise: bool, first: usize, spare: usize, ea
     spare + each
 }
 
-// Before those of the left one are prepended, where the heads of the right one's clauses stand from place `right` on: those heads, if the lists are joined
-// crosswise; else the heads that were saved, restored directly before them.
+// Answers the heads that the left one's clauses are put before, where those of the right one's stand from place `right` on: these, if the lists are joined
+// crosswise; else the heads that were saved, restored directly before these.
 fn restore_heads(
     heads: &mut [u32],
     crosswise: bool,
@@ -119,9 +119,9 @@ fn restore_heads(
     }
 }
 
-// From place `at` on stand the heads of so many chains. Puts each clause of row `root` before each of these; the heads of all then end where those
-// ended, and the place of the first is returned. Places from `spare` on are free. The clauses of the right one of two operands are prepended by
-// a call, those of the left one in the next turn, so that only nesting on the right is deep.
+// Puts each clause of row `root` before each of the `many` chains whose heads stand from place `at` on. The heads of all then end where those ended, and
+// the place of the first is answered. Places from `spare` on are free. The clauses of the right one of two operands are prepended by a call, those of
+// the left one in the next turn, so that only nesting on the right is deep.
 fn prepend_clauses(
     rows: &[u64],
     cells: &mut [u16],
@@ -162,7 +162,7 @@ fn prepend_clauses(
     }
 }
 
-// Writes the literals of a chain from place `start` on, and returns the place after them.
+// Writes the literals of a chain from place `start` on, and answers the place after them.
 fn write_chain(cells: &[u16], literals: &mut [u32], start: usize, head: usize) -> usize
     requires { ⌜ Followable (now cells) head × (start + length (chainOf (now cells) head) ≤ length (now literals)) ⌝ }
     ensures { λ e. ⌜ Wrote (now (literals .entry)) (now (literals .exit)) start e (chainOf (now (cells .entry)) head) ⌝ }

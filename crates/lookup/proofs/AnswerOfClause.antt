@@ -71,7 +71,9 @@ module _ (cs : List (List Literal)) (k n : ℕ) {s : Size} (is : s ≡ sizeOf cs
 
     pub lookup-clause : k < c → partialAnswer (withTests n partial.Empty (map literalTest (getD cs k []))) ≡ answerOf n (lookupAmong cs k)
     unfolding lookupAmong clauseLookup
-    lookup-clause lt = answer-of-tests n (map literalTest (getD cs k [])) ∙ sym (rw (in-bounds, lt-ltb k (length cs) (omega (arith, count-facts .0)), lookupAmong))
+    lookup-clause lt =
+        answer-of-tests n (map literalTest (getD cs k []))
+        ∙ sym (rw (in-bounds, lt-ltb k (length cs) (omega (arith, count-facts .0)), lookupAmong))
 
     pub has-clause : {l : List ℕ} {r : ℕ} → Sound l r → r < rowsMax → cs ≡ clauses false (treeAt l r) → k < c → HasClause l r k
     has-clause sound low same lt =
@@ -117,7 +119,8 @@ module _ (n : ℕ) where
       ap foundValue.Found (sym it) ∙ sym (rw (lt-ltb n (length vs) (omega arith), foundOf))
   found-at (refuse why place) e lt = let z : _≡_ {A = ℕ} 0 1 = cc in absurd (omega arith)
 
-  pub found-none : (x : Lookup) {c many : ℕ} {v : Value} → answerOf n x ≡ answer.OnColumn c many v → many ≤ n → foundValue.Refused refusal.NoSuch 0 ≡ foundOf x n
+  pub found-none : (x : Lookup) {c many : ℕ} {v : Value} → answerOf n x ≡ answer.OnColumn c many v →
+      many ≤ n → foundValue.Refused refusal.NoSuch 0 ≡ foundOf x n
   unfolding answerOf foundOf
   found-none (onColumn c vs) {many = many} {v = v} e le = let long : length vs ≡ many = cc in sym (rw (le-ltb n (length vs) (omega arith), foundOf))
   found-none (refuse why place) e le = let z : _≡_ {A = ℕ} 0 1 = cc in absurd (omega arith)

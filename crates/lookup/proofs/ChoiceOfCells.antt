@@ -1,6 +1,6 @@
--- Both theorems speak of the same valueCount. What `split`'s promise says of every choice of valueCount onColumn of the choice that cells make: with it, the tree's value
--- is what the cells make of the tree (`choice-value`), and the value of each clause that is written is what they make of that clause (`choice-clause`), of
--- which `LooksUp` speaks.
+-- Both theorems speak of the same values. What `split`'s promise says of every choice of values holds of the choice that cells make: with it, the tree's
+-- value is what the cells make of the tree (`choice-value`), and the value of each clause that is written is what they make of that clause
+-- (`choice-clause`), of which `LooksUp` speaks.
 -- Assumes nothing.
 use Prim.Native.Nat.{ℕ, zero, suc, _<_}
 use mathlib.Core.Path.{_≡_, refl, sym, ap, ap₂, _∙_, subst}
@@ -113,17 +113,18 @@ module _ (text rows : List ℕ) (world : World) where
   agrees-to zero r b s = absurd (omega arith)
   agrees-to (suc n) r b s =
       subst (Agrees text world choice) (sym (tree-step s))
-      (node-agrees (shapeAt rows r) r (rowAt rows r) (tree-step s) (s .falls r (omega arith)) (λ q h. agrees-to n q (omega arith) (sound-below q s (omega arith))))
+      (node-agrees (shapeAt rows r) r (rowAt rows r) (tree-step s) (s .falls r (omega arith))
+      (λ q h. agrees-to n q (omega arith) (sound-below q s (omega arith))))
 
   agrees : {r : ℕ} → Sound rows r → Agrees text world choice (treeAt rows r)
   agrees {r} s = agrees-to (suc r) r (omega arith) s
 
   module _ (t : Tree) (is : readRows text rows ≡ one t) where
-    there : Agrees text world choice t
-    there = let y = accepted text rows t is in subst (Agrees text world choice) (sym (y .tree)) (agrees (y .sound))
+    root-agrees : Agrees text world choice t
+    root-agrees = let y = accepted text rows t is in subst (Agrees text world choice) (sym (y .tree)) (agrees (y .sound))
 
     pub choice-value : kleene.value choice t ≡ predicateValue text world t
-    choice-value = agrees-value text world choice t there
+    choice-value = agrees-value text world choice t root-agrees
 
     pub choice-clause : (k : ℕ) → kleene.anyOf choice (map literalNumber (getD (clauses false t) k [])) ≡ clauseValue text world (getD (clauses false t) k [])
-    choice-clause k = same-at text world choice (clauses false t) k (same-clauses text world choice false t there)
+    choice-clause k = same-at text world choice (clauses false t) k (same-clauses text world choice false t root-agrees)

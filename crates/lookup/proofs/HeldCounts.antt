@@ -65,11 +65,15 @@ unfolding countWhen
 entries t r false = ap (λ (i : ℕ). getD t i 0) (sym (add-zero (2 * r)))
 entries t r true = refl
 
-pub reading-plain : (c : ClauseCounts) (t : List ℕ) (r : ℕ) (g : Bool) → g ≡ false → ((h : Bool) → countWhen c h ≡ getD t (2 * r + bit h) 0) → c .plain ≡ getD t (2 * r + bit g) 0
+-- what was read of row r is the table's
+abbrev pub ReadAt : List ℕ → ℕ → ClauseCounts → Type 0
+ReadAt t r c = (g : Bool) → countWhen c g ≡ getD t (2 * r + bit g) 0
+
+pub reading-plain : (c : ClauseCounts) (t : List ℕ) (r : ℕ) (g : Bool) → g ≡ false → ReadAt t r c → c .plain ≡ getD t (2 * r + bit g) 0
 unfolding countWhen
 reading-plain c t r g e f = f false ∙ ap (λ (h : Bool). getD t (2 * r + bit h) 0) (sym e)
 
-pub reading-negated : (c : ClauseCounts) (t : List ℕ) (r : ℕ) (g : Bool) → g ≡ true → ((h : Bool) → countWhen c h ≡ getD t (2 * r + bit h) 0) → c .negated ≡ getD t (2 * r + bit g) 0
+pub reading-negated : (c : ClauseCounts) (t : List ℕ) (r : ℕ) (g : Bool) → g ≡ true → ReadAt t r c → c .negated ≡ getD t (2 * r + bit g) 0
 unfolding countWhen
 reading-negated c t r g e f = f true ∙ ap (λ (h : Bool). getD t (2 * r + bit h) 0) (sym e)
 
@@ -78,7 +82,7 @@ counts-are : (l : List ℕ) (r : ℕ) {p q : ℕ} → p ≡ heldCount l r false 
 unfolding clauseCounts
 counts-are l r e f = ap₂ (λ (p : ℕ) (q : ℕ). record { plain = p; negated = q }) e f
 
-module _ {l t : List ℕ} {r x : ℕ} (done : CountsBelow l t r) (lt : x < r) {c : ClauseCounts} (read : (g : Bool) → countWhen c g ≡ getD t (2 * x + bit g) 0) where
+module _ {l t : List ℕ} {r x : ℕ} (done : CountsBelow l t r) (lt : x < r) {c : ClauseCounts} (read : ReadAt t x c) where
   pub read-counts : c ≡ clauseCounts l x
   unfolding countWhen
   read-counts = counts-are l x (read false ∙ done .each x lt false) (read true ∙ done .each x lt true)
@@ -90,8 +94,9 @@ module _ {l t : List ℕ} {r x : ℕ} (done : CountsBelow l t r) (lt : x < r) {c
 -- ---- the counts of a row from those of its operands
 
 module _ {l : List ℕ} {r : ℕ} (h : Sound l r) {s : Shape} (e : s ≡ shapeAt l r) where
-  -- an atom has one clause
-  count-node : (k : Shape) → s ≡ k → (g : Bool) (n : ℕ) → length (clauses g (nodeOf k r (rowAt l r) (map (treeAt l) (operandsOf (arityOf k))))) ≡ n → heldCount l r g ≡ min n clausesHeld
+  -- a row whose node has n clauses has that count
+  count-node : (k : Shape) → s ≡ k → (g : Bool) (n : ℕ) →
+      length (clauses g (nodeOf k r (rowAt l r) (map (treeAt l) (operandsOf (arityOf k))))) ≡ n → heldCount l r g ≡ min n clausesHeld
   unfolding heldCount
   count-node k f g n m = ap (λ (t : Tree). min (length (clauses g t)) clausesHeld) (node-at h e f) ∙ ap (λ (i : ℕ). min i clausesHeld) m
 

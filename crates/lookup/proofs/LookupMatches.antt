@@ -1,5 +1,5 @@
 -- A lookup keeps exactly the right cells (`lookup-matches`): where a clause is a lookup on a column, it is TRUE exactly if the column's cell matches one of
--- its valueCount. `literal-test` says that the test which stands for a literal has the literal's value.
+-- its values. `literal-test` says that the test which stands for a literal has the literal's value.
 -- Assumes nothing.
 use mathlib.Core.Path.{_≡_, refl, sym, ap, ap₂, _∙_}
 use Prim.Native.Nat.{ℕ}
@@ -15,7 +15,8 @@ use Rattle.cnf.specs.Kleene as kleene
 use Rattle.cnf.specs.Clause.{Literal, literal}
 use Rattle.values.specs.Value.{constantOfLabel, valueOf, isUndefined}
 use Rattle.lookup.specs.Cell.{Cell, null, boolean, integer, float, string, cellOf, isNull, isNaN, same, truth, isTrue, equal, is, matches}
-use Rattle.columns.specs.Lookup.{leafOf, isColumn, isConstant, equalTest, isTest, testOf, on, none, literalTest, testsColumn, allTestColumn, valueIn, valuesIn, lookupOn, lookupFrom, lookupIn, clauseLookup}
+use Rattle.columns.specs.Lookup.{leafOf, isColumn, isConstant, equalTest, isTest, testOf}
+use Rattle.columns.specs.Lookup.{on, none, literalTest, testsColumn, allTestColumn, valueIn, valuesIn, lookupOn, lookupFrom, lookupIn, clauseLookup}
 use Rattle.lookup.proofs.EqualSymmetric.{equal-symmetric}
 use Rattle.lookup.specs.Meaning.{World, cellIn, predicateValue, literalValue, clauseValue, anyMatch}
 use Rattle.rows.specs.Label.{Label}
@@ -65,13 +66,13 @@ true-or kleene.NULL kleene.NULL = refl
 true-or kleene.NULL kleene.TRUE = refl
 true-or kleene.TRUE w = refl
 
--- no test
+-- what is no test tests no column
 false-true : {A : Type 0} → false ≡ true → A
 false-true e = let z : _≡_ {A = ℕ} 0 1 = cc in absurd (omega arith)
 
--- ---- testsColumn
+-- ---- tests
 
--- a test's value, where its column onColumn a cell
+-- a test's value, where its column holds a cell
 unfoldable testValue : List ℕ → Cell → Test → kleene.Value
 testValue text cell Other = kleene.NULL
 testValue text cell (Equals c w) = equal cell (cellOf text (valueOf w))
@@ -111,22 +112,27 @@ module _ (text : List ℕ) (world : World) where
     unfolding equalTest testsColumn testValue
     equal-value a b e = by (isColumn (leafOf a) && isConstant (leafOf b)) (isColumn (leafOf b) && isConstant (leafOf a)) refl refl e
       where
+        -- the test by which way round it is
+        case : Bool → Bool → Test
+        case p q =
+            elim p [
+              | true ↦ Equals (leafOf a .x) (constantOfLabel (leafOf b))
+              | false ↦ elim q [ true ↦ Equals (leafOf b .x) (constantOfLabel (leafOf a)) | false ↦ Other ]
+            ]
+
         by : (p q : Bool) → (isColumn (leafOf a) && isConstant (leafOf b)) ≡ p → (isColumn (leafOf b) && isConstant (leafOf a)) ≡ q →
-            testsColumn c (elim p [ true ↦ Equals (leafOf a .x) (constantOfLabel (leafOf b)) | false ↦ elim q [ true ↦ Equals (leafOf b .x) (constantOfLabel (leafOf a)) | false ↦ Other ] ]) ≡ true →
-            equal (cellIn text world a) (cellIn text world b)
-            ≡ testValue text (world .column c) (elim p [ true ↦ Equals (leafOf a .x) (constantOfLabel (leafOf b)) | false ↦ elim q [ true ↦ Equals (leafOf b .x) (constantOfLabel (leafOf a)) | false ↦ Other ] ])
+            testsColumn c (case p q) ≡ true → equal (cellIn text world a) (cellIn text world b) ≡ testValue text (world .column c) (case p q)
         by true q f g h =
-            ap₂ equal
-            (column-cell a (both-true (isColumn (leafOf a)) (isConstant (leafOf b)) f .0) ∙ ap (world .column) (sym (eqb-true c (leafOf a .x) h)))
-            (constant-cell b (both-true (isColumn (leafOf a)) (isConstant (leafOf b)) f .1))
+            let parts = both-true (isColumn (leafOf a)) (isConstant (leafOf b)) f in
+            ap₂ equal (column-cell a (parts .0) ∙ ap (world .column) (sym (eqb-true c (leafOf a .x) h))) (constant-cell b (parts .1))
         by false true f g h =
+            let parts = both-true (isColumn (leafOf b)) (isConstant (leafOf a)) g in
             equal-symmetric (cellIn text world a) (cellIn text world b)
-            ∙ ap₂ equal
-            (column-cell b (both-true (isColumn (leafOf b)) (isConstant (leafOf a)) g .0) ∙ ap (world .column) (sym (eqb-true c (leafOf b .x) h)))
-            (constant-cell a (both-true (isColumn (leafOf b)) (isConstant (leafOf a)) g .1))
+            ∙ ap₂ equal (column-cell b (parts .0) ∙ ap (world .column) (sym (eqb-true c (leafOf b .x) h))) (constant-cell a (parts .1))
         by false false f g h = false-true h
 
-    is-value : (a : Tree) (y : ℕ) → testsColumn c (isTest (leafOf a) y) ≡ true → is y (cellIn text world a) ≡ testValue text (world .column c) (isTest (leafOf a) y)
+    is-value : (a : Tree) (y : ℕ) → testsColumn c (isTest (leafOf a) y) ≡ true →
+        is y (cellIn text world a) ≡ testValue text (world .column c) (isTest (leafOf a) y)
     unfolding isTest testsColumn testValue
     is-value a y e = by (isColumn (leafOf a)) refl e
       where
@@ -222,7 +228,7 @@ module _ (text : List ℕ) (cell : Cell) where
 -- ---- clauses
 
 module _ (text : List ℕ) (world : World) where
-  -- every literal testsColumn column c
+  -- every literal tests column c
   all-match : (c : ℕ) (ls : List Literal) → allTestColumn c (map literalTest ls) ≡ true →
       isTrue (clauseValue text world ls) ≡ anyMatch text (world .column c) (valuesIn (map literalTest ls))
   unfolding allTestColumn clauseValue valuesIn anyMatch

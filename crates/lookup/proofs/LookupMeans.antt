@@ -50,7 +50,7 @@ finds-value text rows k n e = record { answer = e; numbers = ap foundNumbers e �
 
 -- ---- what a lookup's answer means
 
--- the valueCount that are handed out are all of them
+-- the values that are handed out are all of them
 handed-some : (c : ℕ) (vs : List Value) (n : ℕ) → n ≤ length vs → handedOut (onColumn c vs) n ≡ take n vs
 unfolding handedOut handed foundOf
 handed-some c vs zero le = refl

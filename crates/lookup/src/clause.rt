@@ -28,7 +28,7 @@ fn clause_of_two(left: usize, right: usize, many: usize, clause: usize) -> RowCl
     }
 }
 
-// Adds the literals of a clause of a row.
+// Adds the literals of a clause of a row. A clause of lists that are joined crosswise is a left one and a right one, else it is one of either list.
 pub fn with_clause(
     rows: &[u64],
     table: &[u16],
@@ -43,42 +43,16 @@ pub fn with_clause(
 {
     let source = past_nots(rows, row, negated);
     match source {
-        Source::Atom(atom, atom_negated) => {
-            with_literal(rows, atom, atom_negated, wanted, partial)
-        }
-        Source::Joined(left, right, both_negated, crosswise) => {
+        Source::Atom(atom, negated) => with_literal(rows, atom, negated, wanted, partial),
+        Source::Joined(left, right, negated, crosswise) => {
             if crosswise {
-                let each = clause_count_at(table, right, both_negated);
-                let first = with_clause(
-                    rows,
-                    table,
-                    left,
-                    both_negated,
-                    clause / each,
-                    wanted,
-                    partial,
-                );
-                with_clause(
-                    rows,
-                    table,
-                    right,
-                    both_negated,
-                    clause % each,
-                    wanted,
-                    first,
-                )
+                let each = clause_count_at(table, right, negated);
+                let first = with_clause(rows, table, left, negated, clause / each, wanted, partial);
+                with_clause(rows, table, right, negated, clause % each, wanted, first)
             } else {
-                let many = clause_count_at(table, left, both_negated);
-                let found = clause_of_two(left, right, many, clause);
-                with_clause(
-                    rows,
-                    table,
-                    found.row,
-                    both_negated,
-                    found.clause,
-                    wanted,
-                    partial,
-                )
+                let many = clause_count_at(table, left, negated);
+                let side = clause_of_two(left, right, many, clause);
+                with_clause(rows, table, side.row, negated, side.clause, wanted, partial)
             }
         }
     }

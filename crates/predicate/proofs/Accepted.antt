@@ -82,7 +82,8 @@ module _ (text l : List ℕ) (t : Tree) where
       more q k d (yes i) = ap (goodAt text l) i ∙ d
       more q k d (no n) = p .good q (omega arith)
 
-      go : ((next : List (Subtree Tree)) → left + (r + 1) ≡ rowCount l → Passed (r + 1) next → readFrom text l left (r + 1) next ≡ one t → Last (left + (r + 1)))
+      go : ((next : List (Subtree Tree)) → left + (r + 1) ≡ rowCount l → Passed (r + 1) next → readFrom text l left (r + 1) next ≡ one t
+          → Last (left + (r + 1)))
           → (b : Bool) → goodAt text l r ≡ b → Last (suc left + r)
       go after true g =
           let z = step-is text l r stack here g (p .tiles) in

@@ -1,5 +1,5 @@
 -- The row check's loop. After r good rows the reading stands before row r over some stack (`Reads`); a good row takes it on (`goes`), a bad one
--- ends it (`stops`), and after the last row there is no row (`ends-none`), one root (`ends-one`) or several (`ends-many`). Before the first row
+-- ends it (`stops`), and after the last row there is no row (`no-rows`), one root (`one-root`) or several (`several-roots`). Before the first row
 -- stand the tests of the lengths (`long-text`, `long-rows`, `ragged`, `in-turn`).
 -- Assumes nothing.
 use Prim.Native.Nat.{ℕ, suc, _+_, _-_, _<_, _≤_}
@@ -16,7 +16,7 @@ use Rattle.rows.specs.Layout.{rowCount, onlyWhole}
 use Rattle.rows.specs.PostOrder.{Subtree, Next, bad, on}
 use Rattle.predicate.specs.Row.{shapeAt, arityOf}
 use Rattle.predicate.specs.Tree.{Tree, treeAt, firstAt, Falls, Sound}
-use Rattle.predicate.specs.Read.{one, refused, stepAt, ended, andThen, readFrom, readRows, checkedOf}
+use Rattle.predicate.specs.Read.{Reading, one, refused, stepAt, ended, andThen, readFrom, readRows, checkedOf}
 use Rattle.predicate.specs.Check.{SoundBefore, goodAt}
 use Rattle.predicate.specs.declared.Checked.the-variants.{Good, Refused}
 use Rattle.predicate.proofs.Trees.{root-at}
@@ -68,27 +68,27 @@ module _ {text l : List ℕ} {r : ℕ} (p : Reads text l r) where
         let left = rowCount l - suc r in
         ap checkedOf (sym (read-on left bad (step-is text l r (p .stack) (below-of h) e (p .tiles))) ∙ p .rest (suc left) (omega arith))
 
-pub ends-none : (text l : List ℕ) → rowCount l ≡ 0 → Refused BadTree 0 ≡ checkedOf (readFrom text l (rowCount l) 0 [])
+pub no-rows : (text l : List ℕ) → rowCount l ≡ 0 → Refused BadTree 0 ≡ checkedOf (readFrom text l (rowCount l) 0 [])
 unfolding checkedOf readFrom ended
-ends-none text l e = ap (λ (n : ℕ). checkedOf (readFrom text l n 0 [])) (sym e)
+no-rows text l e = ap (λ (n : ℕ). checkedOf (readFrom text l n 0 [])) (sym e)
 
 module _ {text l : List ℕ} {r : ℕ} (last : ℕ) (p : Reads text l r) (h : rowCount l ≤ r) (e : last + 1 ≡ r) where
   is-all : ended r (p .stack) ≡ readFrom text l (rowCount l) 0 []
   unfolding readFrom
   is-all = p .rest 0 (omega (arith, p .within))
 
-  pub ends-one : firstAt l last ≡ 0 → Good last ≡ checkedOf (readFrom text l (rowCount l) 0 [])
+  pub one-root : firstAt l last ≡ 0 → Good last ≡ checkedOf (readFrom text l (rowCount l) 0 [])
   unfolding checkedOf ended
-  ends-one z = ap Good (sym (root-at l last)) ∙ ap checkedOf (go (p .stack) (p .tiles)) ∙ ap checkedOf is-all
+  one-root z = ap Good (sym (root-at l last)) ∙ ap checkedOf (go (p .stack) (p .tiles)) ∙ ap checkedOf is-all
     where
       go : (s : List (Subtree Tree)) → Tiles l r s → one (treeAt l last) ≡ ended r s
       go [] t = absurd (omega arith)
       go (w ∷ []) t = let q : last ≡ t .0 = omega (arith, t .1) in ap one (ap (treeAt l) q ∙ sym (t .2))
       go (w ∷ v ∷ s) t = let q : last ≡ t .0 = omega (arith, t .1) in absurd (omega (arith, t .3, ap (firstAt l) q, t .4 .1))
 
-  pub ends-many : (firstAt l last ≡ 0 → ⊥) → Refused BadTree last ≡ checkedOf (readFrom text l (rowCount l) 0 [])
+  pub several-roots : (firstAt l last ≡ 0 → ⊥) → Refused BadTree last ≡ checkedOf (readFrom text l (rowCount l) 0 [])
   unfolding checkedOf ended
-  ends-many n = ap checkedOf (go (p .stack) (p .tiles)) ∙ ap checkedOf is-all
+  several-roots n = ap checkedOf (go (p .stack) (p .tiles)) ∙ ap checkedOf is-all
     where
       go : (s : List (Subtree Tree)) → Tiles l r s → refused BadTree last ≡ ended r s
       go [] t = absurd (omega arith)
@@ -98,12 +98,22 @@ module _ {text l : List ℕ} {r : ℕ} (last : ℕ) (p : Reads text l r) (h : ro
 -- ---- the tests before the rows are read
 
 module _ (text l : List ℕ) where
-  -- the reading, with its tests' outcomes
+  -- the reading, by its tests' outcomes: is something too long, and are there only whole rows?
+  abbrev pub readBy : Bool → Bool → Reading
+  readBy long whole =
+      elim long [
+        | true ↦ refused TooLong 0
+        | false ↦
+            elim whole [
+              | true ↦ readFrom text l (rowCount l) 0 []
+              | false ↦ refused BadTree (rowCount l)
+            ]
+      ]
+
   pub by-tests : (b c : Bool) → (ltb textMax (length text) || ltb rowsMax (rowCount l)) ≡ b → onlyWhole l ≡ c
-      → readRows text l ≡ elim b [ true ↦ refused TooLong 0 | false ↦ elim c [ true ↦ readFrom text l (rowCount l) 0 [] | false ↦ refused BadTree (rowCount l) ] ]
+      → readRows text l ≡ readBy b c
   unfolding readRows
-  by-tests b c e d =
-      ap₂ (λ (p : Bool) (q : Bool). elim p [ true ↦ refused TooLong 0 | false ↦ elim q [ true ↦ readFrom text l (rowCount l) 0 [] | false ↦ refused BadTree (rowCount l) ] ]) e d
+  by-tests b c e d = ap₂ readBy e d
 
   pub long-text : textMax < length text → readRows text l ≡ refused TooLong 0
   long-text h = by-tests true (onlyWhole l) (ap (λ (b : Bool). b || ltb rowsMax (rowCount l)) (lt-ltb textMax (length text) h)) refl

@@ -43,7 +43,8 @@ module _ (l : List ℕ) (r : ℕ) {a : Arity} where
       pub left-off : (x + 1 ≡ first → ⊥) → false ≡ operandsPrecede l r a
       left-off n = sym (ne-eqb (x + 1) first n) ∙ precede-two
 
-module _ (text l : List ℕ) (r : ℕ) {w : Row} {k : Class} {t : Bool} (p : w ≡ rowAt l r) (q : k ≡ classOf (w .kind)) (e : t ≡ allowedOf text k (w .x) (w .y)) where
+module _ (text l : List ℕ) (r : ℕ) {w : Row} {k : Class} {t : Bool}
+    (p : w ≡ rowAt l r) (q : k ≡ classOf (w .kind)) (e : t ≡ allowedOf text k (w .x) (w .y)) where
   allows : t ≡ allowedOf text (classOf (rowAt l r .kind)) (rowAt l r .x) (rowAt l r .y)
   allows = e ∙ ap (λ (c : Class). allowedOf text c (w .x) (w .y)) q ∙ ap (λ (v : Row). allowedOf text (classOf (v .kind)) (v .x) (v .y)) p
 

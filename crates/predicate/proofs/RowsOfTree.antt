@@ -39,7 +39,8 @@ module _ (l : List ℕ) (r : ℕ) (w : Row) where
   over-two : numbers (rowOverTwo (labelOverTwo w) (rootOf (treeAt l (w .x))) (rootOf (treeAt l (w .y)))) ≡ numbers w
   over-two = ap₂ (λ (a : ℕ) (b : ℕ). numbers (rowOverTwo (labelOverTwo w) a b)) (root-at l (w .x)) (root-at l (w .y))
 
-  node-rows : (c : Class) → tableOf (nodeOf (shapeOf c w) r w (map (treeAt l) (operandsOf (arityOf (shapeOf c w))))) ≡ tablesOf l (arityOf (shapeOf c w)) ++ numbers w
+  node-rows : (c : Class)
+      → tableOf (nodeOf (shapeOf c w) r w (map (treeAt l) (operandsOf (arityOf (shapeOf c w))))) ≡ tablesOf l (arityOf (shapeOf c w)) ++ numbers w
   unfolding tableOf nodeOf shapeOf arityOf operandsOf
   node-rows class.Unknown = refl
   node-rows class.Null = refl
@@ -65,7 +66,8 @@ module _ (text l : List ℕ) where
   abbrev Goods : ℕ → Type 0
   Goods r = (q : ℕ) → q ≤ r → goodAt text l q ≡ true
 
-  operands-part : (r : ℕ) (a : Arity) → Sound l r → Falls a r → operandsPrecede l r a ≡ true → ((q : ℕ) → q < r → tableOf (treeAt l q) ≡ partOf l (firstAt l q) (q + 1))
+  operands-part : (r : ℕ) (a : Arity) → Sound l r → Falls a r → operandsPrecede l r a ≡ true
+      → ((q : ℕ) → q < r → tableOf (treeAt l q) ≡ partOf l (firstAt l q) (q + 1))
       → tablesOf l a ≡ partOf l (firstBy l r a) r
   unfolding operandsPrecede
   operands-part r arity.Nil s f e ih = sym (part-none l r)
@@ -84,7 +86,8 @@ module _ (text l : List ℕ) where
   spelled-under zero r h s g = absurd (omega arith)
   spelled-under (suc n) r h s g =
       ap tableOf (tree-step s)
-      ∙ node (and-true (allowedOf text (classOf (rowAt l r .kind)) (rowAt l r .x) (rowAt l r .y)) (operandsPrecede l r (arityOf (shapeAt l r))) (g r (omega arith)))
+      ∙ node
+      (and-true (allowedOf text (classOf (rowAt l r .kind)) (rowAt l r .x) (rowAt l r .y)) (operandsPrecede l r (arityOf (shapeAt l r))) (g r (omega arith)))
       (λ q k. spelled-under n q (omega arith) (sound-below q s (omega arith)) (λ p i. g p (omega arith)))
     where
       node : (allowedOf text (classOf (rowAt l r .kind)) (rowAt l r .x) (rowAt l r .y) ≡ true) × (operandsPrecede l r (arityOf (shapeAt l r)) ≡ true)
@@ -92,7 +95,9 @@ module _ (text l : List ℕ) where
           → tableOf (nodeOf (shapeAt l r) r (rowAt l r) (map (treeAt l) (operandsOf (arityOf (shapeAt l r))))) ≡ partOf l (firstAt l r) (r + 1)
       node e ih =
           node-rows l r (rowAt l r) (classOf (rowAt l r .kind))
-          ∙ ap₂ _++_ (operands-part r (arityOf (shapeAt l r)) s (s .falls r (omega arith)) (e .1) ih ∙ ap (λ (i : ℕ). partOf l i r) (sym (first-at s refl))) (row-part l r (s .there))
+          ∙ ap₂ _++_
+          (operands-part r (arityOf (shapeAt l r)) s (s .falls r (omega arith)) (e .1) ih ∙ ap (λ (i : ℕ). partOf l i r) (sym (first-at s refl)))
+          (row-part l r (s .there))
           ∙ parts-join l {f = firstAt l r} {m = r} {t = r + 1} (first-le s) (omega arith) (omega (arith, s .there))
 
 pub rows-of-tree : (text l : List ℕ) (t : Tree) → readRows text l ≡ one t → tableOf t ≡ l

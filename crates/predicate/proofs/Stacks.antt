@@ -52,7 +52,8 @@ one-precedes l r x (w ∷ left) true e t =
     )
 one-precedes l r x (w ∷ left) false e t = missed x r [] w left e
 
-two-precede : (l : List ℕ) (r x y : ℕ) (stack : List (Subtree Tree)) (b c : Bool) → eqb (y + 1) r ≡ b → eqb (x + 1) (firstAt l y) ≡ c → SoundBefore l r → Tiles l r stack
+two-precede : (l : List ℕ) (r x y : ℕ) (stack : List (Subtree Tree)) (b c : Bool) → eqb (y + 1) r ≡ b → eqb (x + 1) (firstAt l y) ≡ c
+    → SoundBefore l r → Tiles l r stack
     → Stood l r (arity.Two x y) stack (b && c)
 unfolding directlyBefore operandsOf before
 two-precede l r x y [] true true e d s t = absurd (omega (arith, eqb-true (y + 1) r e))
@@ -120,7 +121,8 @@ module _ (text l : List ℕ) (r : ℕ) (stack : List (Subtree Tree)) (s : SoundB
           → stepAt text l r stack ≡ elim q [ true ↦ push make (directlyBefore (map at (operandsOf (arityOf (shapeAt l r)))) r stack) | false ↦ bad ]
       tested q f = ap (λ (p : Bool). elim p [ true ↦ push make (directlyBefore (map at (operandsOf (arityOf (shapeAt l r)))) r stack) | false ↦ bad ]) f
 
-      go : (p q : Bool) → allowedOf text (classOf (rowAt l r .kind)) (rowAt l r .x) (rowAt l r .y) ≡ p → Stood l r (arityOf (shapeAt l r)) stack q → Stepped text l r stack (p && q)
+      go : (p q : Bool) → allowedOf text (classOf (rowAt l r .kind)) (rowAt l r .x) (rowAt l r .y) ≡ p → Stood l r (arityOf (shapeAt l r)) stack q
+          → Stepped text l r stack (p && q)
       go true true f w =
           let h = below-sound (w .2) in (
             record { first = firstBy l r (arityOf (shapeAt l r)); tree = make (map (treeAt l) (operandsOf (arityOf (shapeAt l r)))) } ∷ w .0,
@@ -133,4 +135,6 @@ module _ (text l : List ℕ) (r : ℕ) (stack : List (Subtree Tree)) (s : SoundB
 
   pub step-is : {b : Bool} → goodAt text l r ≡ b → Tiles l r stack → Stepped text l r stack b
   unfolding goodAt
-  step-is e t = subst (Stepped text l r stack) e (stepped (allowedOf text (classOf (rowAt l r .kind)) (rowAt l r .x) (rowAt l r .y)) (operandsPrecede l r (arityOf (shapeAt l r))) refl refl t)
+  step-is e t =
+      subst (Stepped text l r stack) e
+      (stepped (allowedOf text (classOf (rowAt l r .kind)) (rowAt l r .x) (rowAt l r .y)) (operandsPrecede l r (arityOf (shapeAt l r))) refl refl t)

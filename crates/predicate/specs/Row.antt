@@ -20,6 +20,24 @@ unfoldable pub among : ℕ → List ℕ → Bool
 among k [] = false
 among k (j ∷ ks) = eqb k j || among k ks
 
+-- the operators over one operand, but for Is, and those over two
+abbrev pub unaryKinds : List ℕ
+unaryKinds = kind.factorial ∷ kind.identity ∷ kind.negate ∷ kind.squareRoot ∷ []
+
+abbrev pub binaryKinds : List ℕ
+binaryKinds =
+    kind.equal
+    ∷ kind.greaterThan
+    ∷ kind.lessThan
+    ∷ kind.add
+    ∷ kind.divide
+    ∷ kind.exponentiate
+    ∷ kind.multiply
+    ∷ kind.remainder
+    ∷ kind.subtract
+    ∷ kind.like
+    ∷ []
+
 -- the kinds of each class
 unfoldable pub classes : List (List ℕ × Class)
 classes =
@@ -32,11 +50,8 @@ classes =
     ∷ (kind.OR ∷ [], class.Or)
     ∷ (kind.NOT ∷ [], class.Not)
     ∷ (kind.is ∷ [], class.Is)
-    ∷ (kind.factorial ∷ kind.identity ∷ kind.negate ∷ kind.squareRoot ∷ [], class.Unary)
-    ∷ (
-      kind.equal ∷ kind.greaterThan ∷ kind.lessThan ∷ kind.add ∷ kind.divide ∷ kind.exponentiate ∷ kind.multiply ∷ kind.remainder ∷ kind.subtract ∷ kind.like ∷ [],
-      class.Binary,
-    )
+    ∷ (unaryKinds, class.Unary)
+    ∷ (binaryKinds, class.Binary)
     ∷ []
 
 -- the class that has the kind, else unknown

@@ -56,6 +56,7 @@ pub enum Arity {
     Two(usize, usize),
 }
 
+// Answers what a kind asks of its row.
 fn class_of(kind: u64) -> Class
     ensures { λ r. ⌜ r ≡ classOf kind ⌝ }
 {
@@ -88,7 +89,7 @@ fn class_of(kind: u64) -> Class
     }
 }
 
-// Does a string lie in the text? No sum is formed that could wrap.
+// Answers whether a string lies in the text. No sum is formed that could wrap.
 fn lies_within(text: &[u8], start: u64, size: u64) -> bool
     ensures { λ r. ⌜ r ≡ leb (start + size) (length (now (text .entry))) ⌝ }
 {
@@ -100,7 +101,7 @@ fn lies_within(text: &[u8], start: u64, size: u64) -> bool
     }
 }
 
-// May a row of this class have these numbers?
+// Answers whether a row of this class may have these numbers.
 fn allowed(text: &[u8], class: Class, x: u64, y: u64) -> bool
     ensures { λ r. ⌜ r ≡ allowedOf (now (text .entry)) class x y ⌝ }
 {
@@ -120,6 +121,7 @@ fn allowed(text: &[u8], class: Class, x: u64, y: u64) -> bool
     }
 }
 
+// Answers what a row of this class is to a splitter.
 fn shape_of(class: Class, row: Row) -> Shape
     ensures { λ r. ⌜ r ≡ shapeOf class row ⌝ }
 {
@@ -141,7 +143,7 @@ fn shape_of(class: Class, row: Row) -> Shape
     }
 }
 
-// What row r is to a splitter.
+// Answers what row r is to a splitter.
 pub fn shape_at(rows: &[u64], r: usize) -> Shape
     requires { ⌜ r < rowCount (now rows) ⌝ }
     ensures { λ s. ⌜ s ≡ shapeAt (now (rows .entry)) r ⌝ }
@@ -151,7 +153,7 @@ pub fn shape_at(rows: &[u64], r: usize) -> Shape
     shape_of(class_of(kind), row)
 }
 
-// The rows of a row's operands.
+// Answers the rows of a row's operands.
 fn operands(s: Shape) -> Arity
     ensures { λ a. ⌜ a ≡ arityOf s ⌝ }
 {
@@ -165,7 +167,7 @@ fn operands(s: Shape) -> Arity
     }
 }
 
-// The first row of the subtree at row r.
+// Finds the first row of the subtree at row r.
 fn first_of(rows: &[u64], r: usize) -> usize
     requires { ⌜ Sound (now rows) r ⌝ }
     ensures { λ s. ⌜ s ≡ firstAt (now (rows .entry)) r ⌝ }
@@ -187,7 +189,7 @@ fn first_of(rows: &[u64], r: usize) -> usize
     }
 }
 
-// Do the whole subtrees of its operands stand directly before row r? An operand is held against r before one is added to it, so that no sum wraps.
+// Answers whether the whole subtrees of its operands stand directly before row r. An operand is held against r before one is added to it, so that no sum wraps.
 fn operands_precede(rows: &[u64], r: usize, a: Arity) -> bool
     requires { ⌜ SoundBefore (now rows) r ⌝ }
     ensures { λ b. ⌜ b ≡ operandsPrecede (now (rows .entry)) r a ⌝ }
@@ -207,7 +209,7 @@ fn operands_precede(rows: &[u64], r: usize, a: Arity) -> bool
     }
 }
 
-// Is row r one that may stand after the rows before it?
+// Answers whether row r may stand after the rows before it.
 fn good_at(text: &[u8], rows: &[u64], r: usize) -> bool
     requires { ⌜ SoundBefore (now rows) r ⌝ }
     ensures { λ b. ⌜ b ≡ goodAt (now (text .entry)) (now (rows .entry)) r ⌝ }
@@ -227,7 +229,7 @@ pub enum Checked {
     Refused(Refusal, usize),
 }
 
-// Each row in turn, up to the first that is not good; then that there is one root.
+// Checks each row in turn, up to the first that is not good; then that there is one root.
 fn check_rows(text: &[u8], rows: &[u64]) -> Checked
     ensures { λ v. ⌜ v ≡ checkedOf (readFrom (now (text .entry)) (now (rows .entry)) (rowCount (now (rows .entry))) 0 []) ⌝ }
 {
@@ -251,7 +253,7 @@ fn check_rows(text: &[u8], rows: &[u64]) -> Checked
     }
 }
 
-// Are the rows a predicate over the text? Then they are the tree at the row that is answered.
+// Checks that the rows are a predicate over the text. Then they are the tree at the row that is answered.
 pub fn check(text: &[u8], rows: &[u64]) -> Checked
     ensures { λ v. ⌜ Checks (now (text .entry)) (now (rows .entry)) v ⌝ }
 {

@@ -1,4 +1,4 @@
--- The layout of a row table. A row written is the row read back (`written`), every other row is as it was (`kept`), a table keeps its
+-- The layout of a row table. A row written is the row read back (`row-read-back`), every other row is as it was (`other-rows-stay`), a table keeps its
 -- length and its capacity (`count-sets`, `capacity-sets`), runs of rows that follow each other are one run (`follows`), and a run of rows in
 -- its place leaves what is before and after it (`laid-out`).
 -- Assumes nothing.
@@ -47,7 +47,8 @@ pub follows : (t : List ℕ) (n k : ℕ) (a b : List ℕ) → k * width ≡ n * 
 follows t n k a b e = ap (λ (j : ℕ). sets (sets t (n * width) a) j b) e ∙ sets-append t (n * width) a b
 
 -- k rows from row n on: what is before and after them is as it was
-pub laid-out : (t rows : List ℕ) (n k : ℕ) → length rows ≡ k * width → n + k ≤ rowCount t → sets t (n * width) rows ≡ take (n * width) t ++ rows ++ drop ((n + k) * width) t
+pub laid-out : (t rows : List ℕ) (n k : ℕ) → length rows ≡ k * width → n + k ≤ rowCount t
+    → sets t (n * width) rows ≡ take (n * width) t ++ rows ++ drop ((n + k) * width) t
 laid-out t rows n k many le =
     let e : n * width + length rows ≡ (n + k) * width = omega arith in
     sets-eq rows t (n * width) (omega (arith, within t le)) ∙ ap (λ (j : ℕ). take (n * width) t ++ rows ++ drop j t) e
@@ -76,15 +77,21 @@ pub same-row : {r s : Row} → r .kind ≡ s .kind → r .x ≡ s .x → r .y �
 same-row k x y = rw (k, x, y)
 
 -- a row written is read back
-pub written : (t : List ℕ) (n : ℕ) (r : Row) → n < rowCount t → rowAt (sets t (n * width) (numbers r)) n ≡ r
-written t n r lt = same-row (ap (λ (j : ℕ). getD (sets t (n * width) (numbers r)) j 0) (sym (add-zero (n * width))) ∙ at 0 (omega arith)) (at 1 (omega arith)) (at 2 (omega arith))
+pub row-read-back : (t : List ℕ) (n : ℕ) (r : Row) → n < rowCount t → rowAt (sets t (n * width) (numbers r)) n ≡ r
+row-read-back t n r lt = same-row (first ∙ at 0 (omega arith)) (at 1 (omega arith)) (at 2 (omega arith))
   where
+    first : getD (sets t (n * width) (numbers r)) (n * width) 0 ≡ getD (sets t (n * width) (numbers r)) (n * width + 0) 0
+    first = ap (λ (j : ℕ). getD (sets t (n * width) (numbers r)) j 0) (sym (add-zero (n * width)))
+
     at : (k : ℕ) → k < width → getD (sets t (n * width) (numbers r)) (n * width + k) 0 ≡ getD (numbers r) k 0
     at k small = getD-sets-same (numbers r) t (n * width) k (omega (arith, within t lt)) small
 
 -- and every other row is as it was
-pub kept : (t : List ℕ) (n m : ℕ) (r : Row) → (m ≡ n → ⊥) → rowAt (sets t (n * width) (numbers r)) m ≡ rowAt t m
-kept t n m r other = same-row (ap (λ (j : ℕ). getD (sets t (n * width) (numbers r)) j 0) (sym (add-zero (m * width))) ∙ at 0 (omega arith) ∙ ap (λ (j : ℕ). getD t j 0) (add-zero (m * width))) (at 1 (omega arith)) (at 2 (omega arith))
+pub other-rows-stay : (t : List ℕ) (n m : ℕ) (r : Row) → (m ≡ n → ⊥) → rowAt (sets t (n * width) (numbers r)) m ≡ rowAt t m
+other-rows-stay t n m r other = same-row (sym (first (sets t (n * width) (numbers r))) ∙ at 0 (omega arith) ∙ first t) (at 1 (omega arith)) (at 2 (omega arith))
   where
+    first : (l : List ℕ) → getD l (m * width + 0) 0 ≡ getD l (m * width) 0
+    first l = ap (λ (j : ℕ). getD l j 0) (add-zero (m * width))
+
     at : (k : ℕ) → k < width → getD (sets t (n * width) (numbers r)) (m * width + k) 0 ≡ getD t (m * width + k) 0
     at k small = getD-sets-other (numbers r) t (n * width) (m * width + k) (λ j lt e. other (omega arith))

@@ -22,16 +22,16 @@ pub data Operands (T : Type 0) : Type 0 where
   found : ℕ → List T → List (Subtree T) → Operands T
 
 -- is the operand the one whose root stands directly before row `next`?
-unfoldable pub ends : Operand → ℕ → Bool
-ends (at r) next = eqb (r + 1) next
-ends any next = true
+unfoldable pub standsBefore : Operand → ℕ → Bool
+standsBefore (at r) next = eqb (r + 1) next
+standsBefore any next = true
 
 -- one operand more, before those that are found
 unfoldable pub before : {T : Type 0} → Operand → Operands T → Operands T
 before o off = off
 before o (found next trees []) = off
 before o (found next trees (w ∷ left)) =
-    elim (ends o next) [
+    elim (standsBefore o next) [
       | true ↦ found (w .first) (w .tree ∷ trees) left
       | false ↦ off
     ]

@@ -17,21 +17,21 @@ pub struct Row {
     pub y: u64,
 }
 
-// How many whole rows a table has.
+// Counts the whole rows of a table.
 pub fn count(rows: &[u64]) -> usize
     ensures { λ r. ⌜ r ≡ rowCount (now (rows .entry)) ⌝ }
 {
     rows.len() / WIDTH
 }
 
-// Has a table no number that is in no whole row?
+// Answers whether a table has no number that is in no whole row.
 pub fn only_whole(rows: &[u64]) -> bool
     ensures { λ r. ⌜ r ≡ onlyWhole (now (rows .entry)) ⌝ }
 {
     rows.len() % WIDTH == 0
 }
 
-// How many rows a table takes: its whole rows, up to the maximum.
+// Answers how many rows a table takes: its whole rows, up to the maximum.
 pub fn capacity(rows: &[u64]) -> usize
     ensures { λ r. ⌜ r ≡ capacityOf (now (rows .entry)) ⌝ }
 {
@@ -39,7 +39,7 @@ pub fn capacity(rows: &[u64]) -> usize
     if whole <= ROWS_MAX { whole } else { ROWS_MAX }
 }
 
-// Row n.
+// Reads row n.
 pub fn row_at(rows: &[u64], n: usize) -> Row
     requires { ⌜ n < rowCount (now rows) ⌝ }
     ensures { λ r. ⌜ r ≡ rowAt (now (rows .entry)) n ⌝ }
@@ -52,7 +52,7 @@ pub fn row_at(rows: &[u64], n: usize) -> Row
     }
 }
 
-// Row n is set to `row`, and nothing else changes.
+// Writes `row` as row n, and nothing else.
 pub fn write_row(rows: &mut [u64], n: usize, row: Row)
     requires { ⌜ n < rowCount (now rows) ⌝ }
     ensures { λ _. ⌜ now (rows .exit) ≡ sets (now (rows .entry)) (n * width) (numbers row) ⌝ }
@@ -63,7 +63,7 @@ pub fn write_row(rows: &mut [u64], n: usize, row: Row)
     rows[at + 2] = row.y;
 }
 
-// Every number is set to 0, also those that are in no whole row.
+// Sets every number to 0, also those that are in no whole row.
 pub fn clear(rows: &mut [u64])
     ensures { λ _. ⌜ now (rows .exit) ≡ replicate (length (now (rows .entry))) 0 ⌝ }
 {

@@ -37,24 +37,26 @@ module _ (cs : List (List Literal)) (a d : List ℕ) where
   short : Bool
   short = ltb (length a) (total cs) || ltb (length d) (length cs)
 
-  -- the list, with its tests' outcomes
-  by-tests : (b c : Bool) → many ≡ b → short ≡ c → listOf cs a d ≡ elim b [
-    | true ↦ record { answer = Refused TooMany 0; literals = a; ends = d }
-    | false ↦
-        elim c [
-          | true ↦ record { answer = Refused NoList 0; literals = a; ends = d }
-          | false ↦ record { answer = Clauses (length cs) (total cs); literals = literalNumbers cs ++ drop (total cs) a; ends = endsFrom 0 cs ++ drop (length cs) d }
-        ]
-  ]
+  -- what is listed, by the outcomes of the tests: are there too many, and is a list too short?
+  abbrev listedBy : Bool → Bool → Split
+  listedBy toomany tooshort =
+      elim toomany [
+        | true ↦ record { answer = Refused TooMany 0; literals = a; ends = d }
+        | false ↦
+            elim tooshort [
+              | true ↦ record { answer = Refused NoList 0; literals = a; ends = d }
+              | false ↦
+                  record {
+                    answer = Clauses (length cs) (total cs);
+                    literals = literalNumbers cs ++ drop (total cs) a;
+                    ends = endsFrom 0 cs ++ drop (length cs) d;
+                  }
+            ]
+      ]
+
+  by-tests : (b c : Bool) → many ≡ b → short ≡ c → listOf cs a d ≡ listedBy b c
   unfolding listOf many short
-  by-tests b c e f = ap₂ (λ (p : Bool) (q : Bool). elim p [
-    | true ↦ record { answer = Refused TooMany 0; literals = a; ends = d }
-    | false ↦
-        elim q [
-          | true ↦ record { answer = Refused NoList 0; literals = a; ends = d }
-          | false ↦ record { answer = Clauses (length cs) (total cs); literals = literalNumbers cs ++ drop (total cs) a; ends = endsFrom 0 cs ++ drop (length cs) d }
-        ]
-  ]) e f
+  by-tests b c e f = ap₂ listedBy e f
 
   pub gives-many : {s : Size} → s ≡ sizeOf cs → s ≡ size.TooMany → Gives (listOf cs a d) (Refused TooMany 0) a d
   unfolding many
@@ -87,7 +89,8 @@ module _ (cs : List (List Literal)) (a d : List ℕ) where
     unfolding short
     gives-shorter h k = refuses (ap₂ _||_ (le-ltb (length a) (total cs) h) (lt-ltb (length d) (length cs) k))
 
-    pub gives-all : {n t : ℕ} {b x : List ℕ} → n ≡ c → t ≡ m → total cs ≤ length a → length cs ≤ length d → Written cs a b d x → Gives (listOf cs a d) (Clauses n t) b x
+    pub gives-all : {n t : ℕ} {b x : List ℕ} → n ≡ c → t ≡ m → total cs ≤ length a → length cs ≤ length d → Written cs a b d x
+        → Gives (listOf cs a d) (Clauses n t) b x
     unfolding short
     gives-all {n} {t} {b} {x} en et h k w =
         subst (λ (s : Split). Gives s (Clauses n t) b x)
@@ -131,14 +134,8 @@ listed-is : (cs : List (List Literal)) (a d : List ℕ) {c m : ℕ} → Clauses 
     → (c ≡ length cs) × (listOf cs a d .literals ≡ literalNumbers cs ++ drop (total cs) a) × (listOf cs a d .ends ≡ endsFrom 0 cs ++ drop (length cs) d)
 listed-is cs a d {c} {m} e = go (many cs a d) (short cs a d) (by-tests cs a d (many cs a d) (short cs a d) refl refl)
   where
-    go : (p q : Bool) → listOf cs a d ≡ elim p [
-      | true ↦ record { answer = Refused TooMany 0; literals = a; ends = d }
-      | false ↦
-          elim q [
-            | true ↦ record { answer = Refused NoList 0; literals = a; ends = d }
-            | false ↦ record { answer = Clauses (length cs) (total cs); literals = literalNumbers cs ++ drop (total cs) a; ends = endsFrom 0 cs ++ drop (length cs) d }
-          ]
-    ] → (c ≡ length cs) × (listOf cs a d .literals ≡ literalNumbers cs ++ drop (total cs) a) × (listOf cs a d .ends ≡ endsFrom 0 cs ++ drop (length cs) d)
+    go : (p q : Bool) → listOf cs a d ≡ listedBy cs a d p q
+        → (c ≡ length cs) × (listOf cs a d .literals ≡ literalNumbers cs ++ drop (total cs) a) × (listOf cs a d .ends ≡ endsFrom 0 cs ++ drop (length cs) d)
     go true q f = let g : Clauses c m ≡ Refused TooMany 0 = e ∙ ap (λ (s : Split). s .answer) f in let z : _≡_ {A = ℕ} 0 1 = cc in absurd (omega arith)
     go false true f = let g : Clauses c m ≡ Refused NoList 0 = e ∙ ap (λ (s : Split). s .answer) f in let z : _≡_ {A = ℕ} 0 1 = cc in absurd (omega arith)
     go false false f =
@@ -163,7 +160,8 @@ module _ (text rows a d : List ℕ) where
       (subst (λ (r : Reading). Gives (splitOf r a d) (Refused why place) a d) (sym e) (record { answer = refl; literals = refl; ends = refl }))
       (λ t c m f g. let z : _≡_ {A = ℕ} 0 1 = cc in absurd (omega arith))
 
-  pub splits-listed : (t : Tree) {v : Listed} {b x : List ℕ} → readRows text rows ≡ one t → Gives (listOf (clauses false t) a d) v b x → Splits text rows a d v b x
+  pub splits-listed : (t : Tree) {v : Listed} {b x : List ℕ} → readRows text rows ≡ one t → Gives (listOf (clauses false t) a d) v b x
+      → Splits text rows a d v b x
   unfolding splitOf
   splits-listed t {v} {b} {x} e p =
       splits
@@ -187,4 +185,5 @@ pub split-means : (text rows a d : List ℕ) (t : Tree) (c m : ℕ) → readRows
 unfolding splitOf
 split-means text rows a d t c m e f =
     subst (λ (r : Reading). Means t (readBack (splitOf r a d .literals) 0 (take c (splitOf r a d .ends)))) (sym e)
-    (splits-listed text rows a d t e (record { answer = refl; literals = refl; ends = refl }) .means t c m e (ap (λ (r : Reading). splitOf r a d .answer) (sym e) ∙ f))
+    (splits-listed text rows a d t e (record { answer = refl; literals = refl; ends = refl }) .means t c m e
+    (ap (λ (r : Reading). splitOf r a d .answer) (sym e) ∙ f))

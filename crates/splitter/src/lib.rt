@@ -1,6 +1,6 @@
 // Predicates split into clauses: a predicate becomes a list of clauses, each a list of literals, that means the same.
 //
-// The clauses are counted first, so that nothing is written before it is known to fit. Then they are strung and written.
+// The clauses are counted first, so that nothing is written before it is known to fit. Then they are listed.
 // docs/FORMAT.md has the rules; specs/ has them as definitions.
 use cnf::Size;
 use cnf::Source;

@@ -46,7 +46,14 @@ pub +count-clauses+count-left-spine-spec : {M : Type 1} → statement M
     (count-clauses-count-left-spine-requires t)
     (count-clauses-returns t)
     (count-clauses-returns-2 t))
-    λ t. count-left-spine-lts.spec (past-nots-reads.Asked, past-nots-reads.Learnt, join-sizes-reads.Asked, join-sizes-reads.Learnt, count-clauses-below t, count-clauses.Post)
+    λ t. count-left-spine-lts.spec (
+      past-nots-reads.Asked,
+      past-nots-reads.Learnt,
+      join-sizes-reads.Asked,
+      join-sizes-reads.Learnt,
+      count-clauses-below t,
+      count-clauses.Post,
+    )
     (count-left-spine-at t)
     count-left-spine.Post
     count-left-spine-Inv-loop

@@ -1,4 +1,4 @@
--- `past_nots` meets its contract. The invariant: row r in its reading has the part that the first row had. The measure is r.
+-- `past_nots` meets its contract. The invariant: row r in its reading has the source that the first row had. The measure is r.
 -- Assumes nothing.
 use mathlib.Core.Path.{_≡_, refl, sym, _∙_}
 use native.Mathlib.Omega.{arith}

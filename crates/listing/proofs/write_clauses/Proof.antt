@@ -1,22 +1,27 @@
--- `write_clauses` meets its contract. The invariant: the first k clauses are written, the ends over the heads that were frontier. The measure is the clauses left.
+-- `write_clauses` meets its contract. The invariant: the first k clauses are written, the ends over the heads of their chains. The measure is the
+-- clauses left.
 -- Assumes nothing.
 use Prim.Native.Nat.{ℕ, _-_, _≤_}
 use mathlib.Core.Path.{_∙_}
 use mathlib.Core.Bool.{false}
+use mathlib.Core.List.{List}
 use native.Mathlib.Omega.{arith}
 use Rattle.predicate.specs.Tree.{treeAt}
-use Rattle.cnf.specs.Clause.{clauses}
+use Rattle.cnf.specs.Clause.{Literal, clauses}
 use Rattle.cnf.proofs.Sizes.{clauses-some}
-use Rattle.listing.proofs.WrittenClauses.{ClausesLeft, clauses-none, long-literals, long-ends, room-to-prepend, chains-spell, heads-below}
-use Rattle.listing.proofs.WrittenClauses.{cells-within, long-cells, rest-kept, long-heads, turn-linked, turn-room, turn-low, turn-more}
-use Rattle.listing.proofs.WrittenClauses.{all-written}
+use Rattle.listing.proofs.WrittenClauses.{FirstWritten, ChainsReady, none-written, long-literals, long-ends, room-to-prepend, chains-ready}
+use Rattle.listing.proofs.WrittenClauses.{long-cells, rest-unchanged, long-heads, turn-followable, turn-room, turn-low, turn-goes, all-written}
 use borrow.Author.Needs.{needs}
 use Rattle.listing.proofs.write_clauses.Statement.{statement}
 use Rattle.listing.proofs.write_clauses.Tie as tie
 
+-- the clauses of row r
+abbrev clausesAt : List ℕ → ℕ → List (List Literal)
+clausesAt rows r = clauses false (treeAt rows r)
+
 abbrev Inv-loop : tie.InvT-loop
 Inv-loop rows cells literals₀ ends₀ r n last at₀ k₀ literals ends at k =
-    (k ≤ n) × ClausesLeft (clauses false (treeAt rows r)) literals₀ literals ends₀ ends at k
+    (k ≤ n) × FirstWritten (clausesAt rows r) literals₀ literals ends₀ ends at k × ChainsReady (clausesAt rows r) cells literals₀ ends₀ n
 
 abbrev μ-loop : tie.MeasureT-loop
 μ-loop rows cells literals₀ ends₀ r n last at₀ k₀ literals ends at k = n - k
@@ -55,14 +60,22 @@ prepend-clauses-requires c κs =
     let pre = start .pre in (
       pre .0,
       pre .1,
-      room-to-prepend (clauses false (treeAt (args .rows .now) (args .r))) (args .n - 1)
+      room-to-prepend (clausesAt (args .rows .now) (args .r)) (args .n - 1)
           (omega (arith, pre .2, clauses-some false (treeAt (args .rows .now) (args .r)))) (pre .3),
     )
 
 loop-holds : tie.Need-loop-holds Inv-loop μ-loop
 loop-holds c =
-    let args = c .before .before .before .before .before .before .before .before .before .before .before .args in
-    (omega arith, clauses-none (clauses false (treeAt (args .rows .now) (args .r))) _ _)
+    let start = c .before .before .before .before .before .before .before .before .before .before .before in
+    let args = start .args in
+    let pre = start .pre in
+    let prepend-clauses = c .before .before .before .before .prepend-clauses in
+    let rows = args .rows .now in (
+      omega arith,
+      none-written (clausesAt rows (args .r)) _ _,
+      chains-ready (clausesAt rows (args .r)) (args .n - 1) (omega (arith, pre .2, clauses-some false (treeAt rows (args .r)))) (pre .3)
+          (prepend-clauses .ensures) (pre .2),
+    )
 
 mul-u32-to-usize : tie.Need-mul-u32-to-usize Inv-loop μ-loop
 mul-u32-to-usize c =
@@ -73,21 +86,15 @@ mul-u32-to-usize c =
 
 slice-read-u32-to-usize : tie.Need-slice-read-u32-to-usize Inv-loop μ-loop
 slice-read-u32-to-usize c =
-    let at-prepend-clauses = c .before .before .before .before .before .before .before in
-    let start = at-prepend-clauses .before .before .before .before .before .before .before in
-    let args = start .args in
-    let pre = start .pre in
-    let prepend-clauses = at-prepend-clauses .prepend-clauses in
-    let loop = c .before .before .loop in
-    let rows = args .rows .now in
+    let at-loop = c .before .before in
+    let args = at-loop .before .before .before .before .before .before .before .before .before .before .before .before .args in
+    let loop = at-loop .loop in
     omega (
       arith,
       c .before .loop-test .taken,
-      pre .2,
-      pre .3 .ends,
-      long-ends (clauses false (treeAt rows (args .r))) (loop .inv .1),
-      long-heads (clauses false (treeAt rows (args .r))) (args .n - 1)
-          (omega (arith, pre .2, clauses-some false (treeAt rows (args .r)))) (pre .3) (prepend-clauses .ensures),
+      loop .inv .2 .all,
+      loop .inv .2 .ends,
+      long-ends (clausesAt (args .rows .now) (args .r)) (loop .inv .1),
     )
 
 u32-to-usize-requires : tie.Need-u32-to-usize-requires Inv-loop μ-loop
@@ -95,63 +102,27 @@ u32-to-usize-requires c κs = search needs
 
 write-chain-requires : tie.Need-write-chain-requires Inv-loop μ-loop
 write-chain-requires c κs =
-    let at-prepend-clauses = c .before .before .before .before .before .before .before .before .before .before in
-    let start = at-prepend-clauses .before .before .before .before .before .before .before in
-    let args = start .args in
-    let pre = start .pre in
-    let prepend-clauses = at-prepend-clauses .prepend-clauses in
-    let loop = c .before .before .before .before .before .loop in
+    let at-loop = c .before .before .before .before .before in
+    let args = at-loop .before .before .before .before .before .before .before .before .before .before .before .before .args in
+    let loop = at-loop .loop in
     let loop-test = c .before .before .before .before .loop-test in
-    let u32-to-usize = c .before .before .u32-to-usize in
-    let rows = args .rows .now in
-    let the-treeAt = treeAt rows (args .r) in
-    let the-clauses = clauses false the-treeAt in
-    let the-prepend-clauses = prepend-clauses .ensures in (
-      turn-linked the-clauses (loop .inv .1) (omega (arith, loop-test .taken, pre .2))
-          (omega (
-            arith,
-            pre .3 .ends,
-            long-heads the-clauses (args .n - 1) (omega (arith, pre .2, clauses-some false the-treeAt)) (pre .3) the-prepend-clauses,
-          )) (u32-to-usize .ensures) (prepend-clauses .ensures .cells)
-          (heads-below the-clauses (args .n - 1) (omega (arith, pre .2, clauses-some false the-treeAt)) (pre .3) the-prepend-clauses
-          (loop .k) (omega (arith, loop-test .taken, pre .2)))
-          (cells-within the-clauses (args .n - 1) (omega (arith, pre .2, clauses-some false the-treeAt)) (pre .3) the-prepend-clauses),
-      turn-room the-clauses (loop .inv .1) (omega (arith, loop-test .taken, pre .2))
-          (omega (
-            arith,
-            pre .3 .ends,
-            long-heads the-clauses (args .n - 1) (omega (arith, pre .2, clauses-some false the-treeAt)) (pre .3) the-prepend-clauses,
-          )) (u32-to-usize .ensures)
-          (chains-spell the-clauses (args .n - 1) (omega (arith, pre .2, clauses-some false the-treeAt)) (pre .3) the-prepend-clauses)
-          (pre .3 .literals),
+    let u32-to-usize = c .before .before .u32-to-usize in (
+      turn-followable (clausesAt (args .rows .now) (args .r)) (loop .inv .1) (loop .inv .2) (loop-test .taken) (u32-to-usize .ensures),
+      turn-room (clausesAt (args .rows .now) (args .r)) (loop .inv .1) (loop .inv .2) (loop-test .taken) (u32-to-usize .ensures),
     )
 
 usize-to-u32-requires : tie.Need-usize-to-u32-requires Inv-loop μ-loop
 usize-to-u32-requires c κs =
     let at-loop = c .before .before .before .before .before .before .before .before in
-    let start = at-loop .before .before .before .before .before .before .before .before .before .before .before .before in
-    let args = start .args in
-    let pre = start .pre in
-    let prepend-clauses = at-loop .before .before .before .before .before .prepend-clauses in
+    let args = at-loop .before .before .before .before .before .before .before .before .before .before .before .before .args in
     let loop = at-loop .loop in
     let loop-test = c .before .before .before .before .before .before .before .loop-test in
     let u32-to-usize = c .before .before .before .before .before .u32-to-usize in
     let write-chain = c .before .before .write-chain in
-    let rows = args .rows .now in
-    let the-treeAt = treeAt rows (args .r) in
     omega (
       arith,
-      turn-low (clauses false the-treeAt) (loop .inv .1) (omega (arith, loop-test .taken, pre .2))
-          (omega (
-            arith,
-            pre .3 .ends,
-            long-heads (clauses false the-treeAt) (args .n - 1) (omega (arith, pre .2, clauses-some false the-treeAt)) (pre .3)
-                (prepend-clauses .ensures),
-          )) (u32-to-usize .ensures)
-          (chains-spell (clauses false the-treeAt) (args .n - 1) (omega (arith, pre .2, clauses-some false the-treeAt)) (pre .3)
-          (prepend-clauses .ensures)) (write-chain .ensures),
-      pre .3 .cells,
-      pre .3 .long,
+      turn-low (clausesAt (args .rows .now) (args .r)) (loop .inv .1) (loop .inv .2) (loop-test .taken) (u32-to-usize .ensures)
+          (write-chain .ensures),
     )
 
 mul-ends-2 : tie.Need-mul-ends-2 Inv-loop μ-loop
@@ -167,22 +138,10 @@ mul-ends-2 c =
 slice-write-ends-2 : tie.Need-slice-write-ends-2 Inv-loop μ-loop
 slice-write-ends-2 c =
     let at-loop = c .before .before .before .before .before .before .before .before .before in
-    let start = at-loop .before .before .before .before .before .before .before .before .before .before .before .before in
-    let args = start .args in
-    let pre = start .pre in
-    let prepend-clauses = at-loop .before .before .before .before .before .prepend-clauses in
+    let args = at-loop .before .before .before .before .before .before .before .before .before .before .before .before .args in
     let loop = at-loop .loop in
     let loop-test = c .before .before .before .before .before .before .before .before .loop-test in
-    let rows = args .rows .now in
-    omega (
-      arith,
-      loop-test .taken,
-      pre .2,
-      pre .3 .ends,
-      long-ends (clauses false (treeAt rows (args .r))) (loop .inv .1),
-      long-heads (clauses false (treeAt rows (args .r))) (args .n - 1)
-          (omega (arith, pre .2, clauses-some false (treeAt rows (args .r)))) (pre .3) (prepend-clauses .ensures),
-    )
+    omega (arith, loop-test .taken, loop .inv .2 .all, loop .inv .2 .ends, long-ends (clausesAt (args .rows .now) (args .r)) (loop .inv .1))
 
 add-k : tie.Need-add-k Inv-loop μ-loop
 add-k c =
@@ -202,26 +161,15 @@ loop-less c =
 loop-again : tie.Need-loop-again Inv-loop μ-loop
 loop-again c =
     let at-loop = c .before .before .before .before .before .before .before .before .before in
-    let start = at-loop .before .before .before .before .before .before .before .before .before .before .before .before in
-    let args = start .args in
-    let pre = start .pre in
-    let prepend-clauses = at-loop .before .before .before .before .before .prepend-clauses in
+    let args = at-loop .before .before .before .before .before .before .before .before .before .before .before .before .args in
     let loop = at-loop .loop in
     let loop-test = c .before .before .before .before .before .before .before .before .loop-test in
     let u32-to-usize = c .before .before .before .before .before .before .u32-to-usize in
-    let write-chain = c .before .before .before .write-chain in
-    let rows = args .rows .now in
-    let the-treeAt = treeAt rows (args .r) in (
+    let write-chain = c .before .before .before .write-chain in (
       omega (arith, loop-test .taken),
-      turn-more (clauses false the-treeAt) (loop .inv .1) (omega (arith, loop-test .taken, pre .2))
-          (omega (
-            arith,
-            pre .3 .ends,
-            long-heads (clauses false the-treeAt) (args .n - 1) (omega (arith, pre .2, clauses-some false the-treeAt)) (pre .3)
-                (prepend-clauses .ensures),
-          )) (u32-to-usize .ensures)
-          (chains-spell (clauses false the-treeAt) (args .n - 1) (omega (arith, pre .2, clauses-some false the-treeAt)) (pre .3)
-          (prepend-clauses .ensures)) (write-chain .ensures) (c .usize-to-u32 .ensures),
+      turn-goes (clausesAt (args .rows .now) (args .r)) (loop .inv .1) (loop .inv .2) (loop-test .taken) (u32-to-usize .ensures)
+          (write-chain .ensures) (c .usize-to-u32 .ensures),
+      loop .inv .2,
     )
 
 same-length : tie.Need-same-length Inv-loop μ-loop
@@ -231,14 +179,14 @@ same-length c =
     let args = start .args in
     let pre = start .pre in
     let prepend-clauses = at-prepend-clauses .prepend-clauses in
-    long-cells (clauses false (treeAt (args .rows .now) (args .r))) (args .n - 1)
+    long-cells (clausesAt (args .rows .now) (args .r)) (args .n - 1)
     (omega (arith, pre .2, clauses-some false (treeAt (args .rows .now) (args .r)))) (pre .3) (prepend-clauses .ensures)
 
 same-length-2 : tie.Need-same-length-2 Inv-loop μ-loop
 same-length-2 c =
     let place = c .before .before .before .before .before .before .before .before .before .before .before .before in
     let args = place .before .args in
-    long-literals (clauses false (treeAt (args .rows .now) (args .r))) (c .before .loop .inv .1)
+    long-literals (clausesAt (args .rows .now) (args .r)) (c .before .loop .inv .1)
 
 same-length-3 : tie.Need-same-length-3 Inv-loop μ-loop
 same-length-3 c =
@@ -248,9 +196,9 @@ same-length-3 c =
     let pre = start .pre in
     let prepend-clauses = at-prepend-clauses .prepend-clauses in
     let rows = args .rows .now in
-    long-ends (clauses false (treeAt rows (args .r))) (c .before .loop .inv .1)
-    ∙ long-heads (clauses false (treeAt rows (args .r))) (args .n - 1) (omega (arith, pre .2, clauses-some false (treeAt rows (args .r))))
-    (pre .3) (prepend-clauses .ensures)
+    long-ends (clausesAt rows (args .r)) (c .before .loop .inv .1)
+    ∙ long-heads (clausesAt rows (args .r)) (args .n - 1) (omega (arith, pre .2, clauses-some false (treeAt rows (args .r)))) (pre .3)
+    (prepend-clauses .ensures)
 
 returns : tie.Need-returns Inv-loop μ-loop
 returns c =
@@ -261,15 +209,8 @@ returns c =
     let prepend-clauses = at-prepend-clauses .prepend-clauses in
     let loop = c .before .loop in
     let rows = args .rows .now in
-    let the-treeAt = treeAt rows (args .r) in
-    all-written (clauses false the-treeAt) (loop .inv .1) (omega (arith, loop .inv .0, c .loop-test .left, pre .2)) (pre .3 .literals)
-    (omega (
-      arith,
-      pre .3 .ends,
-      long-heads (clauses false the-treeAt) (args .n - 1) (omega (arith, pre .2, clauses-some false the-treeAt)) (pre .3)
-          (prepend-clauses .ensures),
-    ))
-    (rest-kept (clauses false the-treeAt) (args .n - 1) (omega (arith, pre .2, clauses-some false the-treeAt)) (pre .3)
+    all-written (clausesAt rows (args .r)) (loop .inv .1) (loop .inv .2) (omega (arith, loop .inv .0, c .loop-test .left))
+    (rest-unchanged (clausesAt rows (args .r)) (args .n - 1) (omega (arith, pre .2, clauses-some false (treeAt rows (args .r)))) (pre .3)
     (prepend-clauses .ensures))
 
 pub write-clauses-spec : {M : Type 1} → statement M

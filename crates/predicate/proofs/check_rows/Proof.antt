@@ -6,7 +6,7 @@ use mathlib.Core.Path.{_≡_, sym, _∙_}
 use Prim.Native.Nat.{_-_}
 use native.Mathlib.Omega.{arith}
 use Rattle.rows.specs.Layout.{rowCount}
-use Rattle.predicate.proofs.CheckLoop.{Reads, begins, below-of, sound-last, goes, stops, ends-none, ends-one, ends-many}
+use Rattle.predicate.proofs.CheckLoop.{Reads, begins, below-of, sound-last, goes, stops, no-rows, one-root, several-roots}
 use Rattle.predicate.proofs.check_rows.Statement.{statement}
 use Rattle.predicate.proofs.check_rows.Tie as tie
 
@@ -61,7 +61,7 @@ returns-2 : tie.Need-returns-2 Inv-loop μ-loop
 returns-2 c =
     let args = c .before .before .before .before .before .before .args in
     let loop = c .before .before .loop in
-    ends-none (args .text .now) (args .rows .now) (omega (arith, c .if2 .taken, loop .inv .1))
+    no-rows (args .text .now) (args .rows .now) (omega (arith, c .if2 .taken, loop .inv .1))
 
 sub-last : tie.Need-sub-last Inv-loop μ-loop
 sub-last c = omega (arith, c .if2 .left)
@@ -77,7 +77,7 @@ returns-3 c =
     let loop = c .before .before .before .before .loop in
     let loop-test = c .before .before .before .loop-test in
     let if2 = c .before .before .if2 in
-    ends-one (count .result - 1) (loop .inv .0) (omega (arith, loop-test .left, loop .inv .1))
+    one-root (count .result - 1) (loop .inv .0) (omega (arith, loop-test .left, loop .inv .1))
     (omega (arith, if2 .left, loop-test .left, loop .inv .1, loop .inv .0 .within)) (sym (c .before .first-of .ensures) ∙ c .if3 .taken)
 
 returns-4 : tie.Need-returns-4 Inv-loop μ-loop
@@ -86,7 +86,7 @@ returns-4 c =
     let loop = c .before .before .before .before .loop in
     let loop-test = c .before .before .before .loop-test in
     let if2 = c .before .before .if2 in
-    ends-many (count .result - 1) (loop .inv .0) (omega (arith, loop-test .left, loop .inv .1))
+    several-roots (count .result - 1) (loop .inv .0) (omega (arith, loop-test .left, loop .inv .1))
     (omega (arith, if2 .left, loop-test .left, loop .inv .1, loop .inv .0 .within)) (λ e. c .if3 .left (c .before .first-of .ensures ∙ e))
 
 pub check-rows-spec : {M : Type 1} → statement M

@@ -1,4 +1,5 @@
--- `operands_precede` meets its contract: for each number of operands its tests are those of `operandsPrecede`; a row number is one less than another only if it is smaller.
+-- `operands_precede` meets its contract: for each number of operands its tests are those of `operandsPrecede`; a row number is one less than another
+-- only if it is smaller.
 -- Assumes nothing.
 use native.Mathlib.Omega.{arith}
 use Rattle.predicate.proofs.Stacks.{sound-of}

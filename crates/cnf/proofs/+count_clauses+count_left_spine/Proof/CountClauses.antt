@@ -1,4 +1,5 @@
--- `count_clauses` meets its contract: an atom's list has one clause of one literal, and two rows' lists are counted count-left-spine the left one.
+-- `count_clauses` meets its contract: an atom's list has one clause of one literal, and of two rows' lists the right one is counted first, and then
+-- the left one's spine.
 -- Assumes nothing.
 use Rattle.predicate.proofs.Trees.{sound-below}
 use Rattle.cnf.proofs.Sizes.{limited-size}

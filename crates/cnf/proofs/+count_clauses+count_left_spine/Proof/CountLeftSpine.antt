@@ -3,7 +3,7 @@
 use Rattle.predicate.proofs.Trees.{sound-below}
 use Rattle.cnf.proofs.Sizes.{limited-size}
 use Rattle.cnf.proofs.Sources.{source-is}
-use Rattle.cnf.proofs.Counting.{size-of-atom, LeftSpine, same-way, spine-begins, spine-ends, spine-turns}
+use Rattle.cnf.proofs.Counting.{size-of-atom, LeftSpine, same-way, spine-begins, spine-done, spine-turns}
 use borrow.Author.Needs.{needs}
 use native.Mathlib.Omega.{arith}
 use Prim.Native.Nat.{ℕ}
@@ -56,7 +56,7 @@ pub count-left-spine-returns : (t : ℕ)
 count-left-spine-returns t c =
     let loop = c .before .before .before .before .loop in
     let past-nots = c .before .before .before .past-nots in
-    spine-ends (loop .inv) (size-of-atom _ (loop .inv .sound) (past-nots .ensures) (c .before .enum-told .given .1))
+    spine-done (loop .inv) (size-of-atom _ (loop .inv .sound) (past-nots .ensures) (c .before .enum-told .given .1))
     (c .join-sizes .ensures)
 
 pub count-left-spine-enum-known-source : (t : ℕ)
@@ -80,7 +80,7 @@ pub count-left-spine-returns-2 : (t : ℕ)
     → lts.Need-returns-2 (calls t) (count-left-spine-at t) count-left-spine.Post count-left-spine-Inv-loop count-left-spine-μ-loop
 count-left-spine-returns-2 t c =
     let loop = c .before .before .before .before .before .before .before .loop in
-    spine-ends (loop .inv) (c .before .count-clauses .ensures) (c .join-sizes2 .ensures)
+    spine-done (loop .inv) (c .before .count-clauses .ensures) (c .join-sizes2 .ensures)
 
 pub count-left-spine-count-clauses-requires-2 : (t : ℕ)
     → lts.Need-count-clauses-requires-2 (calls t) (count-left-spine-at t) count-left-spine.Post count-left-spine-Inv-loop count-left-spine-μ-loop

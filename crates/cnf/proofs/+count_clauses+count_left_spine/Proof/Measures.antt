@@ -1,4 +1,4 @@
--- The measures of the cycle: the row, and `count_left_spine` before `count_clauses` at the same row.
+-- The measures of the cycle: twice the row, and one more for `count_left_spine`, which calls `count_clauses` at the same row.
 -- Assumes nothing.
 use Prim.Native.Nat.{ℕ, _+_, _*_, _<_}
 use borrow.Fn.Kinds.{In}

@@ -1,6 +1,6 @@
 -- `test::is_test` meets its contract: its test is that of `isTest`.
 -- Assumes nothing.
-use mathlib.Core.Path.{sym, ap, _∙_}
+use mathlib.Core.Path.{ap, _∙_}
 use Prim.Native.Nat.{ℕ}
 use Rattle.columns.specs.Lookup.{isTest}
 use Rattle.columns.specs.declared.test.Test.the-variants.{Is}

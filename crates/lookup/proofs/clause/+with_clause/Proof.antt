@@ -1,8 +1,8 @@
--- The proof of the cycle of calls: the members' needs stand in a file each.
+-- `clause::with_clause`, which calls itself, meets its contract: its needs are answered in WithClause, and in Measures is what falls.
 -- Assumes nothing.
 mod Measures
 mod WithClause
-use Rattle.lookup.proofs.clause.+with_clause.Proof.Measures.{μ-with-clause, with-clause-at, with-clause-below}
+use Rattle.lookup.proofs.clause.+with_clause.Proof.Measures.{μ-with-clause, with-clause-at}
 use Rattle.lookup.proofs.clause.+with_clause.Proof.WithClause.{calls}
 use Rattle.lookup.proofs.clause.+with_clause.Proof.WithClause.{with-clause-past-nots-requires, with-clause-enum-known-source}
 use Rattle.lookup.proofs.clause.+with_clause.Proof.WithClause.{with-clause-with-literal-requires, with-clause-enum-known-source-2}

@@ -1,6 +1,6 @@
 -- `counts::fill_clause_counts` meets its contract. The invariant: the table has the counts of the rows that were passed.
 -- Assumes nothing.
-use mathlib.Core.Path.{_≡_, refl, _∙_}
+use mathlib.Core.Path.{_≡_, refl}
 use Prim.Native.Nat.{_+_, _-_, _≤_}
 use native.Mathlib.Omega.{arith}
 use lib.ListN.{length, length-set}

@@ -1,4 +1,4 @@
--- The measures of the cycle.
+-- What falls from call to call of `with_clause`: the row.
 -- Assumes nothing.
 use Prim.Native.Nat.{ℕ, _<_}
 use borrow.Fn.Kinds.{In}

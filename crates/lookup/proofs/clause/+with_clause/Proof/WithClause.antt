@@ -4,7 +4,8 @@ use borrow.Author.Needs.{needs}
 use native.Mathlib.Omega.{arith}
 use mathlib.Core.Path.{_∙_}
 use Prim.Native.Nat.{ℕ}
-use Rattle.lookup.proofs.ClauseOfJoined.{here-can-add, here-result, left-falls, right-falls, each-some, left-can-find, right-can-find, cross-result, found-in-two}
+use Rattle.lookup.proofs.ClauseOfJoined.{atom-can-add, atom-result, left-falls, right-falls, each-some}
+use Rattle.lookup.proofs.ClauseOfJoined.{left-can-find, right-can-find, cross-result, found-in-two}
 use Rattle.lookup.proofs.clause.+with_clause.Proof.Measures.{with-clause-at, with-clause-below}
 use Rattle.lookup.proofs.clause.with_clause.Reads as with-clause
 use Rattle.cnf.proofs.past_nots.Reads as past-nots-reads
@@ -39,7 +40,7 @@ pub with-clause-with-literal-requires : (t : ℕ) → with-clause-lts.Need-with-
 with-clause-with-literal-requires t c κs =
     let pre = c .before .before .before .before .before .before .pre in
     let past-nots = c .before .before .before .past-nots in
-    here-can-add (pre .1) (past-nots .ensures) (c .before .source .given .1)
+    atom-can-add (pre .1) (past-nots .ensures) (c .before .source .given .1)
 
 pub with-clause-enum-known-source-2 : (t : ℕ) → with-clause-lts.Need-enum-known-source-2 (calls t) (with-clause-at t) with-clause.Post
 with-clause-enum-known-source-2 t c = search needs
@@ -111,7 +112,7 @@ with-clause-returns t c =
     let pre = c .before .before .before .before .before .before .before .pre in
     let past-nots = c .before .before .before .before .past-nots in
     let source = c .before .before .source in
-    c .with-literal .ensures ∙ here-result (pre .1) (past-nots .ensures) (source .given .1) _
+    c .with-literal .ensures ∙ atom-result (pre .1) (past-nots .ensures) (source .given .1) _
 
 pub with-clause-returns-2 : (t : ℕ) → with-clause-lts.Need-returns-2 (calls t) (with-clause-at t) with-clause.Post
 with-clause-returns-2 t c =
