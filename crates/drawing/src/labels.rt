@@ -11,6 +11,7 @@ use syntax::kind as syntax_kind;
 use tokens::table::spelled;
 use values::Value;
 use values::bits_of;
+use values::constant_of_row;
 use values::pattern_of;
 use values::value_of;
 
@@ -94,7 +95,7 @@ fn print_boolean(x: u64) {
 
 fn print_constant(text: &[u8], row: Row) {
     print(b" ");
-    print_value(text, value_of(row));
+    print_value(text, value_of(constant_of_row(row)));
 }
 
 // Prints a syntax row. The arguments of a Function are drawn below it.

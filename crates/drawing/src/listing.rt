@@ -6,8 +6,8 @@ use crate::out::print_count;
 use crate::out::print_decimal;
 use limits::CLAUSES_MAX;
 use limits::LITERALS_MAX;
-use lookup::Found;
-use lookup::Looked;
+use lookup::FoundValue;
+use lookup::LookedUp;
 use splitter::Listed;
 use widths::u32_to_usize;
 
@@ -47,8 +47,8 @@ fn print_value_at(text: &[u8], rows: &[u64], clause: usize, i: usize) {
         print(b", ");
     }
     match lookup::value_at(text, rows, clause, i) {
-        Found::At(v) => print_value(text, v),
-        Found::Refused(_, _) => print(b"?"),
+        FoundValue::Found(v) => print_value(text, v),
+        FoundValue::Refused(_, _) => print(b"?"),
     }
 }
 
@@ -82,13 +82,13 @@ fn print_counts(count: usize, total: usize) {
 // What a clause looks for.
 fn print_lookup(text: &[u8], rows: &[u64], clause: usize) {
     match lookup::lookup(text, rows, clause) {
-        Looked::On(column, count) => {
+        LookedUp::OnColumn(column, count) => {
             print_column(column);
             print_if_none(count);
             print_values(text, rows, clause, count);
             print(b"\n");
         }
-        Looked::Refused(_, _) => print(b"    no lookup\n"),
+        LookedUp::Refused(_, _) => print(b"    no lookup\n"),
     }
 }
 

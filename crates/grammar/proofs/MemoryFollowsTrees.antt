@@ -17,14 +17,13 @@ use Rattle.numbers.specs.declared.Number.{Number}
 use Rattle.numbers.specs.declared.Number.the-variants.{Integer, Float, Neither}
 use Rattle.refusals.specs.declared.Refusal.{Refusal}
 use Rattle.refusals.specs.declared.Refusal.the-variants.{End, NeedClose, NeedComma, NeedName, NeedNullOrNan}
-use Rattle.rows.specs.Label.{Label, label, leafRow, rowOverOne, rowOverTwo, rowOverMany}
+use Rattle.rows.specs.Label.{Label, leafRow, rowOverOne, rowOverTwo}
 use Rattle.rows.specs.Layout.{width}
 use Rattle.rows.proofs.Laws.{follows}
-use Rattle.syntax.specs.Kind as row
-use Rattle.operators.specs.Operator.{binds, infixOf, rightOf, prefixOf, startOf}
+use Rattle.operators.specs.Operator.{binds, rightOf, prefixOf, startOf}
 use Rattle.operators.specs.declared.operator.Start.{Start}
 use Rattle.operators.specs.declared.operator.Start.the-variants as start
-use Rattle.syntax.specs.Tree.{Tree, leaf, unary, binary, call, Trees, none, more, size, sizes, many, root, rowsOf, rowsAll}
+use Rattle.syntax.specs.Tree.{Tree, leaf, unary, binary, Trees, none, more, size, sizes, many, root, rowsOf, rowsAll}
 use Rattle.grammar.specs.Rules.{Reading, Reader}
 use Rattle.grammar.specs.Rules as T
 use Rattle.grammar.specs.Memory.{Out, done, refuse, then, past, put, fuel, Rec}
@@ -91,14 +90,14 @@ module _ (text ts : List ℕ) (cap : ℕ) where
   null-laid : (t : List ℕ) (n : ℕ) → Room cap t → LaidAfter cap t n t n (M.nullOrNan ts) (λ (at, used, x). T.nullOrNan text ts cap at used x)
   unfolding M.nullOrNan T.nullOrNan
   null-laid t n room at x le =
-      either cap (eqb (kindAt ts at) kind.NULL) (unary-laid (label row.is 0 0) t n room (at + 1) x le)
-      (need-laid kind.NAN NeedNullOrNan _ _ t n _ _ (unary-laid (label row.is 0 1) t n room (at + 1) x le))
+      either cap (eqb (kindAt ts at) kind.NULL) (unary-laid _ t n room (at + 1) x le)
+      (need-laid kind.NAN NeedNullOrNan _ _ t n _ _ (unary-laid _ t n room (at + 1) x le))
 
   postfix-laid : (t : List ℕ) (n : ℕ) → Room cap t → LaidAfter cap t n t n (M.postfix ts) (λ (at, used, x). T.postfix text ts cap at used x)
   unfolding M.postfix T.postfix
   postfix-laid t n room at x le =
-      either cap (eqb (kindAt ts at) kind.exclamation) (unary-laid (label row.factorial 0 0) t n room (at + 1) x le)
-      (either cap (eqb (kindAt ts (at + 1)) kind.NOT) (after cap _ _ (null-laid t n room (at + 2) x le) (unary-laid (label row.negation 0 0) t n room))
+      either cap (eqb (kindAt ts at) kind.exclamation) (unary-laid _ t n room (at + 1) x le)
+      (either cap (eqb (kindAt ts (at + 1)) kind.NOT) (after cap _ _ (null-laid t n room (at + 2) x le) (unary-laid _ t n room))
       (null-laid t n room (at + 1) x le))
 
   postfixes-laid : (m : ℕ) (t : List ℕ) (n : ℕ) → Room cap t → LaidAfter cap t n t n (M.postfixes ts m) (λ (at, used, x). T.postfixes text ts cap m at used x)
@@ -114,16 +113,16 @@ module _ (text ts : List ℕ) (cap : ℕ) where
 
   numeral-laid : (x : Number) → LaidAnywhere (M.numeral x) (T.numeral text ts cap x)
   unfolding M.numeral T.numeral
-  numeral-laid (Integer n) c t room = leaf-laid (label row.integer n 0) 1 c t room
-  numeral-laid Float c t room = leaf-laid (label row.float (c .at) 0) 1 c t room
+  numeral-laid (Integer n) c t room = leaf-laid _ 1 c t room
+  numeral-laid Float c t room = leaf-laid _ 1 c t room
   numeral-laid Neither c t room = refusal-laid cap
 
   column-laid : LaidAnywhere (M.column ts) (T.column text ts cap)
   unfolding M.column T.column
   column-laid c t room =
       either cap (eqb (kindAt ts (c .at + 1)) kind.period)
-      (need-laid kind.ident NeedName (past 2 c) t t (c .rows) _ _ (leaf-laid (label row.qualified (c .at) (c .at + 2)) 1 (past 2 c) t room))
-      (leaf-laid (label row.column (c .at) 0) 1 c t room)
+      (need-laid kind.ident NeedName (past 2 c) t t (c .rows) _ _ (leaf-laid _ 1 (past 2 c) t room))
+      (leaf-laid _ 1 c t room)
 
   module _ (rec : Rec) (read : Reader) (reads : Reads rec read) where
     group-laid : LaidAnywhere (M.group text ts rec) (T.group text ts cap read)
@@ -143,8 +142,8 @@ module _ (text ts : List ℕ) (cap : ℕ) where
     arguments-laid f zero xs n c t room e = refusal-laid cap
     arguments-laid f (suc turns) xs n c t room e =
         either cap (eqb (kindAt ts (c .at)) kind.closeParen)
-        (row-laid cap text ts t _ (rowsAll n xs) n (rowOverMany (label row.function f 0) (many xs)) (past 1 c)
-        (call (label row.function f 0) xs) room refl (omega (arith, length-all n xs)) (omega arith) refl)
+        (row-laid cap text ts t _ (rowsAll n xs) n _ (past 1 c)
+        _ room refl (omega (arith, length-all n xs)) (omega arith) refl)
         (after cap _ _ (argument-laid xs c _ (room-stays cap t (n * width) (rowsAll n xs) room)) λ at x le.
         let table : sets (sets t (n * width) (rowsAll n xs)) (c .rows * width) (rowsOf (c .rows) x) ≡ sets t (n * width) (rowsAll n (more xs x)) =
         follows t n (c .rows) (rowsAll n xs) (rowsOf (c .rows) x) (omega (arith, length-all n xs))
@@ -161,10 +160,10 @@ module _ (text ts : List ℕ) (cap : ℕ) where
     unfolding M.atom T.atom
     atom-laid start.Nothing c t room = refusal-laid cap
     atom-laid start.Number c t room = numeral-laid (numberOf (spelled text ts (c .at))) c t room
-    atom-laid start.Text c t room = leaf-laid (label row.string (c .at) 0) 1 c t room
+    atom-laid start.Text c t room = leaf-laid _ 1 c t room
     atom-laid start.Name c t room = named-laid c t room
     atom-laid start.Paren c t room = group-laid c t room
-    atom-laid (start.Plain kind x) c t room = leaf-laid (label kind x 0) 1 c t room
+    atom-laid (start.Plain kind x) c t room = leaf-laid _ 1 c t room
     atom-laid start.Other c t room = refusal-laid cap
 
     operand-laid : (m : ℕ) → LaidAnywhere (M.operand text ts rec m) (T.operand text ts cap read m)
@@ -172,7 +171,7 @@ module _ (text ts : List ℕ) (cap : ℕ) where
     operand-laid m c t room =
         let op = prefixOf (kindAt ts (c .at)) in
         either cap (binds (op .precedence) m)
-        (after cap _ _ (reads (op .precedence) (past 1 c) t room) (unary-laid (label (op .row) 0 0) t (c .rows) room))
+        (after cap _ _ (reads (op .precedence) (past 1 c) t room) (unary-laid _ t (c .rows) room))
         (atom-laid (startOf (kindAt ts (c .at))) c t room)
 
     infixed-laid : (t : List ℕ) (n : ℕ) → Room cap t → LaidAfter cap t n t n (M.infixed text ts rec) (λ (at, used, x). T.infixed text ts cap read at used x)
@@ -180,7 +179,7 @@ module _ (text ts : List ℕ) (cap : ℕ) where
     infixed-laid t n room at x le =
         let k = kindAt ts at in
         after cap _ _ (reads (rightOf k) (cursor (at + 1) (n + size x)) _ (room-stays cap t (n * width) (rowsOf n x) room))
-        (binary-laid (label (infixOf k .row) 0 0) x t n room)
+        (binary-laid _ x t n room)
 
     infixes-laid : (m : ℕ) (t : List ℕ) (n : ℕ) → Room cap t →
         LaidAfter cap t n t n (M.infixes text ts rec m) (λ (at, used, x). T.infixes text ts cap read m at used x)

@@ -1,4 +1,4 @@
--- What a reading comes to, by one induction over the rules (`expression-goes`, `wholeExpression-goes`; `Onward` says what it is):
+-- What a reading comes to (`Onward`), by one induction over the rules, whose end are `expression-goes` and `wholeExpression-goes`:
 --   it stands past the token where it began (`advances`), and within the tokens;
 --   the rows due are those that were due before and the tree's own, so none that was due is lost (`keeps`);
 --   each row of the tree has a token of its own among those read;
@@ -21,15 +21,14 @@ use Rattle.numbers.specs.declared.Number.the-variants.{Integer, Float, Neither}
 use Rattle.refusals.specs.Refusal.{refusalNumber}
 use Rattle.refusals.specs.declared.Refusal.{Refusal}
 use Rattle.refusals.specs.declared.Refusal.the-variants.{NoRoom, NeedClose, NeedComma, NeedName, NeedNullOrNan}
-use Rattle.rows.specs.Label.{Label, label}
-use Rattle.syntax.specs.Kind as row
-use Rattle.syntax.specs.Tree.{Tree, leaf, unary, binary, call, Trees, none, more, size, sizes}
+use Rattle.rows.specs.Label.{Label}
+use Rattle.syntax.specs.Tree.{Tree, leaf, unary, Trees, none, more, size, sizes}
 use Rattle.syntax.specs.Read.{nullary, arityOf}
 use Rattle.syntax.proofs.RowsReadBack.{FitsLeaf, FitsOverOne, WellFormed, AllWellFormed}
-use Rattle.operators.specs.Operator.{among, binds, infixOf, rightOf, prefixOf, postfixOf, startOf}
+use Rattle.operators.specs.Operator.{among, binds, infixOf, rightOf, prefixOf, startOf}
 use Rattle.operators.specs.declared.operator.Start.{Start}
 use Rattle.operators.specs.declared.operator.Start.the-variants as start
-use Rattle.grammar.specs.Rules.{Reading, done, refuse, _>>=_, Reader, while, due, need, expression, finish, wholeExpression}
+use Rattle.grammar.specs.Rules.{Reading, done, _>>=_, Reader, while, due, need, expression, finish, wholeExpression}
 use Rattle.grammar.specs.Rules.{nullOrNan, postfix, postfixes, numeral, column, group, argument, arguments, named, atom, operand, infixed, infixes, level}
 use Rattle.grammar.proofs.Going.{kind-is, prefix-in, infix-in, postfix-in}
 use Rattle.grammar.proofs.Readings.{Holds, weaken, after, either}
@@ -61,9 +60,9 @@ past k s = record { at = s .at + k; due = s .due; own = s .own; formed = s .form
 module _ (ts : List ℕ) (cap : ℕ) where
   -- from s to e, with at least g rows more
   pub record Onward (g : ℕ) (s e : State) : Type 0 where
-    pub rows : e .due + s .own ≡ s .due + e .own
+    pub rows : e .due + s .own ≡ s .due + e .own  -- the rows that came to be due are the trees' own
     pub grown : s .own + g ≤ e .own
-    pub tokens : e .own + s .at ≤ e .at + s .own
+    pub tokens : e .own + s .at ≤ e .at + s .own  -- each of them has a token of its own
     pub inside : s .at ≤ tokenCount ts → e .at ≤ tokenCount ts
     pub formed : s .formed → e .formed
 
@@ -168,16 +167,16 @@ module _ (text ts : List ℕ) (cap : ℕ) where
   null-goes : (at used : ℕ) (x : Tree) → Goes ts cap 1 (having at used x) (nullOrNan text ts cap at used x)
   unfolding nullOrNan arityOf
   null-goes at used x =
-      either (eqb (kindAt ts at) kind.NULL) (λ e. unary-goes (label row.is 0 0) at used x (refl, refl) (kind-is ts at kind.NULL (omega arith) (eqb-true _ _ e)))
+      either (eqb (kindAt ts at) kind.NULL) (λ e. unary-goes _ at used x (refl, refl) (kind-is ts at kind.NULL (omega arith) (eqb-true _ _ e)))
       (λ e. need-goes (having at used x) kind.NAN NeedNullOrNan refl at _
-      (λ f. unary-goes (label row.is 0 1) at used x (refl, refl) (kind-is ts at kind.NAN (omega arith) f)))
+      (λ f. unary-goes _ at used x (refl, refl) (kind-is ts at kind.NAN (omega arith) f)))
 
   pub postfix-goes : (at used : ℕ) (x : Tree) → at < tokenCount ts → Goes ts cap 1 (having at used x) (postfix text ts cap at used x)
   unfolding postfix arityOf
   postfix-goes at used x inside =
-      either (eqb (kindAt ts at) kind.exclamation) (λ e. unary-goes (label row.factorial 0 0) at used x (refl, refl) inside)
+      either (eqb (kindAt ts at) kind.exclamation) (λ e. unary-goes _ at used x (refl, refl) inside)
       (λ e. either (eqb (kindAt ts (at + 1)) kind.NOT)
-      (λ f. over-goes 1 (having at used x) (label row.negation 0 0) (refl, refl) (omega (arith, kind-is ts (at + 1) kind.NOT (omega arith) (eqb-true _ _ f)))
+      (λ f. over-goes 1 (having at used x) _ (refl, refl) (omega (arith, kind-is ts (at + 1) kind.NOT (omega arith) (eqb-true _ _ f)))
       (null-goes (at + 2) used x))
       (λ f. goes-earlier ts cap 1 (having at used x) (omega arith) (null-goes (at + 1) used x)))
 
@@ -187,8 +186,8 @@ module _ (text ts : List ℕ) (cap : ℕ) where
 
   numeral-goes : (n : Number) (at used : ℕ) → at < tokenCount ts → Goes ts cap 1 (before at used) (numeral text ts cap n at used)
   unfolding numeral arityOf
-  numeral-goes (Integer n) at used inside = leaf-goes (label row.integer n 0) at used refl inside
-  numeral-goes Float at used inside = leaf-goes (label row.float at 0) at used refl inside
+  numeral-goes (Integer n) at used inside = leaf-goes _ at used refl inside
+  numeral-goes Float at used inside = leaf-goes _ at used refl inside
   numeral-goes Neither at used inside = record { told = other ts cap refl }
 
   column-goes : (at used : ℕ) → at < tokenCount ts → Goes ts cap 1 (before at used) (column text ts cap at used)
@@ -197,8 +196,8 @@ module _ (text ts : List ℕ) (cap : ℕ) where
       either (eqb (kindAt ts (at + 1)) kind.period)
       (λ e. need-goes (before at used) kind.ident NeedName refl (at + 2) _
       (λ f. let there = kind-is ts (at + 2) kind.ident (omega arith) f in
-      goes-earlier ts cap 2 (before at used) (omega arith) (leaf-goes (label row.qualified at (at + 2)) (at + 2) used refl there)))
-      (λ e. leaf-goes (label row.column at 0) at used refl inside)
+      goes-earlier ts cap 2 (before at used) (omega arith) (leaf-goes _ (at + 2) used refl there)))
+      (λ e. leaf-goes _ at used refl inside)
 
   module _ (rec : Reader) (goes : (m at used : ℕ) → Goes ts cap 1 (before at used) (rec m at used)) where
     pub argument-goes : (xs : Trees) (at used : ℕ) → Goes ts cap 1 (before at used) (argument text ts cap rec xs at used)
@@ -214,7 +213,7 @@ module _ (text ts : List ℕ) (cap : ℕ) where
     arguments-goes f (suc turns) at used xs =
         either (eqb (kindAt ts at) kind.closeParen)
         (λ e. let there = kind-is ts at kind.closeParen (omega arith) (eqb-true _ _ e) in
-        due-goes (havingAll at used xs) (at + 1) used (call (label row.function f 0) xs) (omega arith) (omega arith) (omega arith) (λ i. omega arith)
+        due-goes (havingAll at used xs) (at + 1) used _ (omega arith) (omega arith) (omega arith) (λ i. omega arith)
         (λ w. ((refl, refl), w)))
         (λ e. after _ (argument-goes xs at used) (λ why p h. h)
         (λ at₁ used₁ x o. goes-on ts cap (one-more at used xs at₁ used₁ x o) (arguments-goes f turns at₁ used₁ (more xs x))))
@@ -235,7 +234,7 @@ module _ (text ts : List ℕ) (cap : ℕ) where
     unfolding atom named group arityOf size
     atom-goes start.Nothing at used e inside = record { told = other ts cap refl }
     atom-goes start.Number at used e inside = numeral-goes (numberOf (spelled text ts at)) at used inside
-    atom-goes start.Text at used e inside = leaf-goes (label row.string at 0) at used refl inside
+    atom-goes start.Text at used e inside = leaf-goes _ at used refl inside
     atom-goes start.Name at used e inside =
         either (eqb (kindAt ts (at + 1)) kind.openParen)
         (λ f. let there = kind-is ts (at + 1) kind.openParen (omega arith) (eqb-true _ _ f) in
@@ -247,7 +246,7 @@ module _ (text ts : List ℕ) (cap : ℕ) where
         (λ at₁ used₁ x o. need-goes (before (at + 1) used) kind.closeParen NeedClose refl at₁ _
         (λ f. let there = kind-is ts at₁ kind.closeParen (omega arith) f in
         record { told = record { rows = o .rows; grown = o .grown; tokens = omega (arith, o .tokens); inside = λ i. omega arith; formed = o .formed } })))
-    atom-goes (start.Plain kind x) at used e inside = leaf-goes (label kind x 0) at used (same-arity nullary (arityOf kind) e) inside
+    atom-goes (start.Plain kind x) at used e inside = leaf-goes _ at used (same-arity nullary (arityOf kind) e) inside
     atom-goes start.Other at used e inside = record { told = other ts cap refl }
 
     -- at the end of the tokens an atom is refused
@@ -264,7 +263,7 @@ module _ (text ts : List ℕ) (cap : ℕ) where
     operand-goes m at used =
         let op = prefixOf (kindAt ts at) in
         either (binds (op .precedence) m)
-        (λ e. over-goes 0 (before at used) (label (op .row) 0 0) (prefix-row-over-one (kindAt ts at) m e, refl) (omega (arith, prefix-in ts at m e))
+        (λ e. over-goes 0 (before at used) _ (prefix-row-over-one (kindAt ts at) m e, refl) (omega (arith, prefix-in ts at m e))
         (goes (op .precedence) (at + 1) used))
         (λ e. atom-ends at used)
 
@@ -275,7 +274,7 @@ module _ (text ts : List ℕ) (cap : ℕ) where
         let k = kindAt ts at in
         let inside : at + 1 ≤ tokenCount ts = omega (arith, infix-in ts at m e) in
         after _ (goes (rightOf k) (at + 1) used) (refused-earlier ts cap 1 inside)
-        (λ at₁ used₁ y o. due-goes (having at used x) at₁ used₁ (binary (label (infixOf k .row) 0 0) x y) (omega (arith, o .rows)) (omega arith)
+        (λ at₁ used₁ y o. due-goes (having at used x) at₁ used₁ _ (omega (arith, o .rows)) (omega arith)
         (omega (arith, o .tokens)) (λ i. o .inside inside) (λ w. ((infix-row-over-two k m e, refl), (w, o .formed tt))))
 
     pub infixes-goes : (m at used : ℕ) (x : Tree) → Goes ts cap 0 (having at used x) (infixes text ts cap rec m at used x)

@@ -3,7 +3,6 @@
 --   accepted-if, accepted-only-if: a table of cap rows accepts exactly what the reading without a limit makes a tree of at most cap rows.
 -- Assumes nothing.
 use mathlib.Core.Path.{_≡_, refl, sym, _∙_}
-use mathlib.Core.Bool.{true, false}
 use mathlib.Core.List.{List}
 use Prim.Native.Nat.{ℕ, _+_, _≤_, _<_}
 use native.Mathlib.Omega.{arith}
@@ -16,7 +15,7 @@ use Rattle.syntax.specs.Tree.{Tree, size}
 use Rattle.grammar.specs.Rules.{Reading, done, refuse, wholeExpression, unlimited}
 use Rattle.grammar.proofs.Readings.{by-cases, told-of}
 use Rattle.grammar.proofs.ReadingAdvances.{wholeExpression-goes}
-use Rattle.grammar.proofs.SmallerTable.{Limited, same, short, room, same-done, accepted-fits, accepted-larger}
+use Rattle.grammar.proofs.SmallerTable.{Limited, same, short, same-or-no-room, same-done, accepted-fits, accepted-larger}
 
 -- with at least as many rows as tokens, NO_ROOM is never given
 pub room-enough : (text ts : List ℕ) (cap : ℕ) → tokenCount ts ≤ cap → (levels p : ℕ) → wholeExpression text ts cap levels ≡ refuse NoRoom p → ⊥
@@ -34,7 +33,7 @@ module _ (text ts : List ℕ) (levels cap : ℕ) where
   -- every table of at least as many rows as tokens gives it
   pub larger-same : tokenCount ts ≤ cap → wholeExpression text ts cap levels ≡ unlimited text ts levels
   unfolding unlimited
-  larger-same large = large-same (room text ts (tokenCount ts) cap large levels) (room-enough text ts (tokenCount ts) (le-refl (tokenCount ts)) levels)
+  larger-same large = large-same (same-or-no-room text ts (tokenCount ts) cap large levels) (room-enough text ts (tokenCount ts) (le-refl (tokenCount ts)) levels)
 
   module _ {at used : ℕ} {x : Tree} where
     pub accepted-if : unlimited text ts levels ≡ done at used x → size x ≤ cap → wholeExpression text ts cap levels ≡ done at used x
@@ -44,7 +43,7 @@ module _ (text ts : List ℕ) (levels cap : ℕ) where
     pub accepted-only-if : wholeExpression text ts cap levels ≡ done at used x → (unlimited text ts levels ≡ done at used x) × (size x ≤ cap)
     unfolding unlimited
     accepted-only-if e = (
-      by-cases (leb cap (tokenCount ts)) (λ l. same-done (room text ts cap (tokenCount ts) (leb-true cap (tokenCount ts) l) levels) e .0)
+      by-cases (leb cap (tokenCount ts)) (λ l. same-done (same-or-no-room text ts cap (tokenCount ts) (leb-true cap (tokenCount ts) l) levels) e .0)
           (λ l. sym (larger-same (omega (arith, leb-false cap (tokenCount ts) l))) ∙ e),
       accepted-fits text ts levels cap e,
     )

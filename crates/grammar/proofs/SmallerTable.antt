@@ -1,5 +1,5 @@
 -- What the size of the row table changes. Of two readings of the same tokens, the one with the smaller table is the other, or it refuses NO_ROOM
--- (`room`). So a token list that is accepted as a tree is accepted with exactly the tables that have at least the tree's rows, and is refused
+-- (`same-or-no-room`). So a token list that is accepted as a tree is accepted with exactly the tables that have at least the tree's rows, and is refused
 -- NO_ROOM with every smaller one:
 --   accepted-fits: what is accepted fits the table;
 --   accepted-larger: with any table of at least the tree's rows the answer is the same;
@@ -21,12 +21,10 @@ use Rattle.numbers.specs.declared.Number.{Number}
 use Rattle.numbers.specs.declared.Number.the-variants.{Integer, Float, Neither}
 use Rattle.refusals.specs.declared.Refusal.{Refusal}
 use Rattle.refusals.specs.declared.Refusal.the-variants.{NoRoom, NeedClose, NeedComma, NeedName, NeedNullOrNan}
-use Rattle.rows.specs.Label.{label}
-use Rattle.syntax.specs.Kind as row
-use Rattle.operators.specs.Operator.{binds, infixOf, rightOf, prefixOf, startOf}
+use Rattle.operators.specs.Operator.{binds, rightOf, prefixOf, startOf}
 use Rattle.operators.specs.declared.operator.Start.{Start}
 use Rattle.operators.specs.declared.operator.Start.the-variants as start
-use Rattle.syntax.specs.Tree.{Tree, unary, binary, call, Trees, none, more, size}
+use Rattle.syntax.specs.Tree.{Tree, Trees, none, more, size}
 use Rattle.grammar.specs.Rules.{Reading, done, refuse, _>>=_, Reader}
 use Rattle.grammar.specs.Rules as T
 use Rattle.grammar.proofs.Going.{postfix-in}
@@ -121,14 +119,14 @@ module _ (text ts : List ℕ) (cap big : ℕ) (larger : cap ≤ big) where
   null-limited : (at used : ℕ) (x : Tree) → used ≤ cap → Limited cap (T.nullOrNan text ts cap at used x) (T.nullOrNan text ts big at used x)
   unfolding T.nullOrNan
   null-limited at used x le =
-      either cap (eqb (kindAt ts at) kind.NULL) (due-limited (at + 1) used (unary (label row.is 0 0) x) le)
-      (need-limited kind.NAN NeedNullOrNan at _ _ (due-limited (at + 1) used (unary (label row.is 0 1) x) le))
+      either cap (eqb (kindAt ts at) kind.NULL) (due-limited (at + 1) used _ le)
+      (need-limited kind.NAN NeedNullOrNan at _ _ (due-limited (at + 1) used _ le))
 
   postfix-limited : (at used : ℕ) (x : Tree) → used ≤ cap → Limited cap (T.postfix text ts cap at used x) (T.postfix text ts big at used x)
   unfolding T.postfix
   postfix-limited at used x le =
-      either cap (eqb (kindAt ts at) kind.exclamation) (due-limited (at + 1) used (unary (label row.factorial 0 0) x) le)
-      (either cap (eqb (kindAt ts (at + 1)) kind.NOT) (due-after (unary (label row.negation 0 0)) (null-limited (at + 2) used x le))
+      either cap (eqb (kindAt ts at) kind.exclamation) (due-limited (at + 1) used _ le)
+      (either cap (eqb (kindAt ts (at + 1)) kind.NOT) (due-after _ (null-limited (at + 2) used x le))
       (null-limited (at + 1) used x le))
 
   while-limited : (more? : ℕ → Bool) (step other : ℕ → ℕ → Tree → Reading) →
@@ -172,7 +170,7 @@ module _ (text ts : List ℕ) (cap big : ℕ) (larger : cap ≤ big) where
     unfolding T.arguments
     arguments-limited f zero at used xs le = stopped cap
     arguments-limited f (suc turns) at used xs le =
-        either cap (eqb (kindAt ts at) kind.closeParen) (due-limited (at + 1) used (call (label row.function f 0) xs) le)
+        either cap (eqb (kindAt ts at) kind.closeParen) (due-limited (at + 1) used _ le)
         (after cap _ _ (argument-limited xs at used le) (λ at₁ used₁ x le₁. arguments-limited f turns at₁ used₁ (more xs x) le₁)
         (λ at₁ used₁ x. kept (arguments-goes text ts big read goes f turns at₁ used₁ (more xs x))))
 
@@ -192,12 +190,12 @@ module _ (text ts : List ℕ) (cap big : ℕ) (larger : cap ≤ big) where
     unfolding T.operand
     operand-limited m at used le =
         let op = prefixOf (kindAt ts at) in
-        either cap (binds (op .precedence) m) (due-after (unary (label (op .row) 0 0)) (limited (op .precedence) (at + 1) used le))
+        either cap (binds (op .precedence) m) (due-after _ (limited (op .precedence) (at + 1) used le))
         (atom-limited (startOf (kindAt ts at)) at used le)
 
     infixed-limited : (at used : ℕ) (x : Tree) → used ≤ cap → Limited cap (T.infixed text ts cap rec at used x) (T.infixed text ts big read at used x)
     unfolding T.infixed
-    infixed-limited at used x le = due-after (binary (label (infixOf (kindAt ts at) .row) 0 0) x) (limited (rightOf (kindAt ts at)) (at + 1) used le)
+    infixed-limited at used x le = due-after _ (limited (rightOf (kindAt ts at)) (at + 1) used le)
 
     infixes-limited : (m at used : ℕ) (x : Tree) → used ≤ cap → Limited cap (T.infixes text ts cap rec m at used x) (T.infixes text ts big read m at used x)
     unfolding T.infixes
@@ -244,9 +242,9 @@ module _ (text ts : List ℕ) (cap big : ℕ) (larger : cap ≤ big) where
   finish-kept at used x = R.either (ltb at (tokenCount ts)) (λ e. record { told = tt }) (λ e. record { told = le-refl used })
 
   -- a smaller table gives the same answer, or NO_ROOM
-  pub room : (levels : ℕ) → Limited cap (T.wholeExpression text ts cap levels) (T.wholeExpression text ts big levels)
+  pub same-or-no-room : (levels : ℕ) → Limited cap (T.wholeExpression text ts cap levels) (T.wholeExpression text ts big levels)
   unfolding T.wholeExpression
-  room levels = after cap _ _ (expression-limited levels 0 0 0 (omega arith)) finish-limited finish-kept
+  same-or-no-room levels = after cap _ _ (expression-limited levels 0 0 0 (omega arith)) finish-limited finish-kept
 
 -- NO_ROOM, wherever
 pub record NoRoomAt (r : Reading) : Type 0 where
@@ -281,16 +279,16 @@ module _ (text ts : List ℕ) (levels cap : ℕ) where
         omega arith
 
     pub accepted-fits : size x ≤ cap
-    accepted-fits = let le = same-done (room text ts cap cap (le-refl cap) levels) e .1 in omega (arith, rows-of)
+    accepted-fits = let le = same-done (same-or-no-room text ts cap cap (le-refl cap) levels) e .1 in omega (arith, rows-of)
 
     pub accepted-larger : (other : ℕ) → size x ≤ other → T.wholeExpression text ts other levels ≡ done at used x
     accepted-larger other le =
-        by-cases (leb cap other) (λ l. same-done (room text ts cap other (leb-true cap other l) levels) e .0)
-        (λ l. same-enough (room text ts other cap (omega (arith, leb-false cap other l)) levels) e (omega (arith, rows-of)))
+        by-cases (leb cap other) (λ l. same-done (same-or-no-room text ts cap other (leb-true cap other l) levels) e .0)
+        (λ l. same-enough (same-or-no-room text ts other cap (omega (arith, leb-false cap other l)) levels) e (omega (arith, rows-of)))
 
     pub accepted-smaller : (other : ℕ) → other < size x → NoRoomAt (T.wholeExpression text ts other levels)
-    accepted-smaller other lt = short-of (room text ts other cap (omega (arith, accepted-fits)) levels) e (omega (arith, rows-of))
+    accepted-smaller other lt = short-of (same-or-no-room text ts other cap (omega (arith, accepted-fits)) levels) e (omega (arith, rows-of))
 
   pub refused-larger : {why : Refusal} {p : ℕ} → T.wholeExpression text ts cap levels ≡ refuse why p → (why ≡ NoRoom → ⊥) → (other : ℕ) → cap ≤ other →
       T.wholeExpression text ts other levels ≡ refuse why p
-  refused-larger e not-room other le = same-refused (room text ts cap other le levels) e not-room
+  refused-larger e not-room other le = same-refused (same-or-no-room text ts cap other le levels) e not-room

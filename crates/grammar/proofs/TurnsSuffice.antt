@@ -16,7 +16,7 @@ use Rattle.refusals.specs.declared.Refusal.the-variants.{End, NeedComma}
 use Rattle.operators.specs.Operator.{among, binds, infixOf, prefixOf, postfixOf, startOf}
 use Rattle.rows.specs.Label.{label}
 use Rattle.syntax.specs.Kind as row
-use Rattle.syntax.specs.Tree.{Tree, unary, call, Trees, none, more}
+use Rattle.syntax.specs.Tree.{Tree, call, Trees, none, more}
 use Rattle.grammar.specs.Rules.{Reading, done, refuse, _>>=_, Reader, while, due, need}
 use Rattle.grammar.specs.Rules.{postfix, postfixes, argument, arguments, atom, operand, infixed, infixes, level, expression}
 use Rattle.grammar.proofs.Going.{infix-in, postfix-in}
@@ -124,14 +124,9 @@ module _ (text ts : List ℕ) (cap : ℕ) where
     -- at the end of the tokens nothing is read
     operand-ended : (read : Reader) (m at used : ℕ) → tokenCount ts ≤ at → operand text ts cap read m at used ≡ refuse End at
     unfolding operand prefixOf startOf among binds atom
-    operand-ended read m at used le = ap by (kind-missing ts at le)
-      where
-        by : ℕ → Reading
-        by k =
-            elim (binds (prefixOf k .precedence) m) [
-              | false ↦ atom text ts cap read (startOf k) at used
-              | true ↦ (read (prefixOf k .precedence) (at + 1) used >>= λ (at, used, x). due text ts cap at used (unary (label (prefixOf k .row) 0 0) x))
-            ]
+    operand-ended read m at used le =
+        let none = kind-missing ts at le in
+        rw (none, operand) (ap (λ (k : ℕ). atom text ts cap read (startOf k) at used) none)
 
     expression-ended : (levels m at used : ℕ) → tokenCount ts ≤ at → Never (expression text ts cap levels m at used)
     unfolding expression level _>>=_

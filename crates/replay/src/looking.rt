@@ -1,14 +1,14 @@
 // The stored answers of the original's lookups: a line of split.txt is `L`, a text, a predicate's rows, a clause, and `N` where it is no lookup, or `V` with
-// the column and the values, each as a constant's row.
+// the column and the values, each as a constant.
 use crate::fields::bytes;
 use crate::fields::count_at;
 use crate::fields::numbers;
 use lines::numbers::field;
-use lookup::Found;
-use lookup::Looked;
+use lookup::FoundValue;
+use lookup::LookedUp;
 use refusals::Refusal;
 use rows::WIDTH;
-use values::row_of;
+use values::constant_of;
 
 const TEXT: usize = 1024;
 
@@ -17,17 +17,17 @@ const ROWS: usize = 256;
 // Is value i of the clause the three fields from `at` on?
 fn value_is(text: &[u8], rows: &[u64], clause: usize, i: usize, f: &[u64], at: usize) -> bool {
     let v = lookup::value_at(text, rows, clause, i);
-    let Found::At(value) = v else {
+    let FoundValue::Found(value) = v else {
         return false;
     };
-    let row = row_of(value);
-    if row.kind != field(f, at, 0) {
+    let constant = constant_of(value);
+    if constant.kind != field(f, at, 0) {
         return false;
     }
-    if row.x != field(f, at, 1) {
+    if constant.x != field(f, at, 1) {
         return false;
     }
-    row.y == field(f, at, 2)
+    constant.y == field(f, at, 2)
 }
 
 // Are the values of the clause those of the fields from `from` on, to the last field?
@@ -59,8 +59,8 @@ fn values_are(
 fn no_more(text: &[u8], rows: &[u64], clause: usize, count: usize) -> bool {
     let v = lookup::value_at(text, rows, clause, count);
     match v {
-        Found::At(_) => false,
-        Found::Refused(why, _) => if let Refusal::NoSuch = why {
+        FoundValue::Found(_) => false,
+        FoundValue::Refused(why, _) => if let Refusal::NoSuch = why {
             true
         } else {
             false
@@ -72,7 +72,7 @@ fn no_more(text: &[u8], rows: &[u64], clause: usize, count: usize) -> bool {
 fn answer_is(text: &[u8], rows: &[u64], clause: usize, f: &[u64], at: usize) -> bool {
     let v = lookup::lookup(text, rows, clause);
     match v {
-        Looked::On(column, count) => {
+        LookedUp::OnColumn(column, count) => {
             if field(f, at, 0) != b'V' as u64 {
                 return false;
             }
@@ -90,7 +90,7 @@ fn answer_is(text: &[u8], rows: &[u64], clause: usize, f: &[u64], at: usize) -> 
             }
             values_are(text, rows, clause, count, f, at + 3)
         }
-        Looked::Refused(why, _) => {
+        LookedUp::Refused(why, _) => {
             if let Refusal::NotLookup = why {
                 field(f, at, 0) == b'N' as u64
             } else {

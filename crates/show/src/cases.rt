@@ -158,8 +158,8 @@ fn show_predicate(text: &[u8], line: &[u8], from: usize, number: u64, rows: &[u6
 {
     let none = [0u32; 0];
     match predicate::check(text, rows) {
-        Checked::Good(n) => {
-            draw_counted(Family::Predicate, text, &none, rows, n);
+        Checked::Good(_) => {
+            draw_counted(Family::Predicate, text, &none, rows, rows::count(rows));
             print_predicate(text, rows, number);
         }
         Checked::Refused(why, place) => {

@@ -12,7 +12,7 @@ use lib.ListN.{length, take, drop, replicate, length-append}
 use lib.Seq.{take-append-seam, drop-drop, take-take, take-add, drop-at}
 use Rattle.rows.specs.Label.{Label, leafRow, rowOverOne, rowOverTwo, rowOverMany, labelOverOne, labelOverTwo, labelOverMany}
 use Rattle.rows.specs.Layout.{width, numbers, rowAt}
-use Rattle.rows.specs.PostOrder.{Subtree, at, any, Operands, found, ends, before, directlyBefore, Next, bad, on, push}
+use Rattle.rows.specs.PostOrder.{Subtree, at, any, Operands, found, standsBefore, before, directlyBefore, Next, bad, on, push}
 use Rattle.rows.specs.declared.Row.{Row}
 use Rattle.rows.proofs.Numbers.{row-of-numbers}
 use Rattle.rows.proofs.StackedOperands.{took}
@@ -173,7 +173,7 @@ times-before (suc k) r stack = ap (before any) (times-before k r stack) ∙ befo
 -- the operands of a function are its arguments
 arguments-before : (n next : ℕ) (xs : Trees) (l : List Tree) (stack : List (Subtree Tree)) → next ≡ n + sizes xs →
     times (many xs) (found next l (stackOf n xs stack)) ≡ found n (listOf xs l) stack
-unfolding times many before ends size
+unfolding times many before standsBefore size
 arguments-before n next none l stack e = ap (λ (k : ℕ). found k l stack) (e ∙ add-zero n)
 arguments-before n next (more xs x) l stack e =
     ap (λ (k : ℕ). times k (found next l (stackOf n (more xs x) stack))) (add-one (many xs)) ∙ arguments-before n (n + sizes xs) xs (x ∷ l) stack refl
