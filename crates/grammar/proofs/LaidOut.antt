@@ -18,7 +18,7 @@ use Rattle.rows.proofs.Laws.{capacity-sets, follows}
 use Rattle.syntax.specs.Tree.{Tree, size, rowsOf}
 use Rattle.grammar.specs.Rules.{Reading, _>>=_, due}
 use Rattle.grammar.specs.Rules as T
-use Rattle.grammar.specs.Memory.{Out, done, refuse, then, put}
+use Rattle.grammar.specs.Memory.{Out, done, refuse, then, pushRow}
 use Rattle.grammar.specs.declared.Cursor.{Cursor}
 
 -- a reading that stands at a token, with so many rows written
@@ -77,9 +77,9 @@ module _ (cap : ℕ) where
   -- a row is written after the rows `front`, and the tree x is complete
   pub row-laid : (text ts t v front : List ℕ) (n : ℕ) (r : Row) (c : Cursor) (x : Tree) → Room t →
       v ≡ sets t (n * width) front → c .rows * width ≡ n * width + length front → c .rows + 1 ≡ n + size x →
-      front ++ numbers r ≡ rowsOf n x → Laid t n (put r c v) (due text ts cap (c .at) (c .rows) x)
-  unfolding put due
-  row-laid text ts t v front n r c x room is at-end complete rows = rw (same, put) (picks (leb cap (c .rows)) refl)
+      front ++ numbers r ≡ rowsOf n x → Laid t n (pushRow r c v) (due text ts cap (c .at) (c .rows) x)
+  unfolding pushRow due
+  row-laid text ts t v front n r c x room is at-end complete rows = rw (same, pushRow) (picks (leb cap (c .rows)) refl)
     where
       same : leb (capacity v) (c .rows) ≡ leb cap (c .rows)
       same =

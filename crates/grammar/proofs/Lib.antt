@@ -1,8 +1,11 @@
 -- Laws of the rules: what the functions' proofs cite, that rules in memory are the rules of trees, and the theorems about reading.
-pub mod Steps
-pub mod Going
-pub mod Openings
-pub mod Alone
+pub mod Answers
+pub mod Loops
+pub mod RuleCases
+pub mod InTokens
+pub mod Reached
+pub mod CursorAdvances
+pub mod RowWritten
 pub mod LaidOut
 pub mod MemoryFollowsTrees
 pub mod Readings

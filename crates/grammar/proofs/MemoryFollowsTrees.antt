@@ -20,13 +20,14 @@ use Rattle.refusals.specs.declared.Refusal.the-variants.{End, NeedClose, NeedCo
 use Rattle.rows.specs.Label.{Label, leafRow, rowOverOne, rowOverTwo}
 use Rattle.rows.specs.Layout.{width}
 use Rattle.rows.proofs.Laws.{follows}
-use Rattle.operators.specs.Operator.{binds, rightOf, prefixOf, startOf}
-use Rattle.operators.specs.declared.operator.Start.{Start}
-use Rattle.operators.specs.declared.operator.Start.the-variants as start
+use Rattle.operators.specs.Operator.{binds, rightOf, prefixOf}
+use Rattle.grammar.specs.Atom.{startOf}
+use Rattle.grammar.specs.declared.Start.{Start}
+use Rattle.grammar.specs.declared.Start.the-variants as start
 use Rattle.syntax.specs.Tree.{Tree, leaf, unary, binary, Trees, none, more, size, sizes, many, root, rowsOf, rowsAll}
 use Rattle.grammar.specs.Rules.{Reading, Reader}
 use Rattle.grammar.specs.Rules as T
-use Rattle.grammar.specs.Memory.{Out, done, refuse, then, past, put, fuel, Rec}
+use Rattle.grammar.specs.Memory.{Out, done, refuse, then, past, pushRow, fuel, Rec}
 use Rattle.grammar.specs.Memory as M
 use Rattle.grammar.specs.declared.Cursor.{Cursor}
 use Rattle.syntax.proofs.Lengths.{length-rows, length-all}
@@ -43,12 +44,12 @@ while-laid cap more? step read t n goes (suc turns) at x le =
 
 module _ (text ts : List ℕ) (cap : ℕ) where
   leaf-laid : (l : Label) (k : ℕ) (c : Cursor) (t : List ℕ) → Room cap t →
-      Laid cap t (c .rows) (put (leafRow l) (past k c) t) (T.due text ts cap (c .at + k) (c .rows) (leaf l))
+      Laid cap t (c .rows) (pushRow (leafRow l) (past k c) t) (T.due text ts cap (c .at + k) (c .rows) (leaf l))
   unfolding rowsOf size
   leaf-laid l k c t room = row-laid cap text ts t t [] (c .rows) (leafRow l) (past k c) (leaf l) room refl (omega arith) refl refl
 
   unary-laid : (l : Label) (t : List ℕ) (n : ℕ) → Room cap t →
-      LaidAfter cap t n t n (λ d u. put (rowOverOne l (d .rows - 1)) d u) (λ (at, used, x). T.due text ts cap at used (unary l x))
+      LaidAfter cap t n t n (λ d u. pushRow (rowOverOne l (d .rows - 1)) d u) (λ (at, used, x). T.due text ts cap at used (unary l x))
   unfolding rowsOf size
   unary-laid l t n room at x le =
       row-laid cap text ts t _ (rowsOf n x) n (rowOverOne l (root n x)) (cursor at (n + size x)) (unary l x) room refl
@@ -56,7 +57,7 @@ module _ (text ts : List ℕ) (cap : ℕ) where
 
   binary-laid : (l : Label) (x : Tree) (t : List ℕ) (n : ℕ) → Room cap t →
       LaidAfter cap (sets t (n * width) (rowsOf n x)) (n + size x) t n
-      (λ d u. put (rowOverTwo l (root n x) (d .rows - 1)) d u) (λ (at, used, y). T.due text ts cap at used (binary l x y))
+      (λ d u. pushRow (rowOverTwo l (root n x) (d .rows - 1)) d u) (λ (at, used, y). T.due text ts cap at used (binary l x y))
   unfolding rowsOf size
   binary-laid l x t n room at y le =
       row-laid cap text ts t _ (rowsOf n x ++ rowsOf (n + size x) y) n (rowOverTwo l (root n x) (root (n + size x) y))
@@ -202,6 +203,6 @@ module _ (text ts : List ℕ) (cap : ℕ) where
   unfolding M.finish T.finish
   finish-laid t n at x le = either cap (ltb at (tokenCount ts)) (refusal-laid cap) (tree-laid cap t n at x le)
 
-  pub wholeExpression-laid : (levels : ℕ) (t : List ℕ) → Room cap t → Laid cap t 0 (M.whole text ts levels t) (T.wholeExpression text ts cap levels)
-  unfolding M.whole T.wholeExpression
+  pub wholeExpression-laid : (levels : ℕ) (t : List ℕ) → Room cap t → Laid cap t 0 (M.wholeExpression text ts levels t) (T.wholeExpression text ts cap levels)
+  unfolding M.wholeExpression T.wholeExpression
   wholeExpression-laid levels t room = after cap _ _ (expression-laid levels 0 _ t room) (finish-laid t 0)

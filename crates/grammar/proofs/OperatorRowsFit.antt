@@ -8,9 +8,10 @@ use native.Mathlib.Omega.{arith}
 use borrow.Author.Tests.{eqb-true}
 use lib.Dec.{eqb, leb, ltb}
 use Rattle.syntax.specs.Read.{Arity, nullary, one, two, counted, arityOf}
-use Rattle.operators.specs.Operator.{Operator, no, infixTable, infixOf, prefixTable, prefixOf, binds, startTable, startOf}
-use Rattle.operators.specs.declared.operator.Start.{Start}
-use Rattle.operators.specs.declared.operator.Start.the-variants as start
+use Rattle.operators.specs.Operator.{Operator, no, infixTable, infixOf, prefixTable, prefixOf, binds}
+use Rattle.grammar.specs.Atom.{startTable, startOf}
+use Rattle.grammar.specs.declared.Start.{Start}
+use Rattle.grammar.specs.declared.Start.the-variants as start
 use Rattle.operators.proofs.Among.{both, every, among-every}
 
 -- the test whether two arities are one

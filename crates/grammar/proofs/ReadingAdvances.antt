@@ -8,7 +8,7 @@
 use mathlib.Core.Path.{_≡_, refl}
 use mathlib.Core.Bool.{Bool, true, false}
 use mathlib.Core.List.{List}
-use Prim.Native.Nat.{ℕ, zero, suc, _+_, _≤_, _<_}
+use Prim.Native.Nat.{ℕ, zero, suc, _+_, _≤_, _<_, max}
 use native.Mathlib.Omega.{arith}
 use borrow.Author.Tests.{eqb-true, eqb-false, leb-true}
 use lib.Dec.{eqb, leb, ltb}
@@ -25,12 +25,13 @@ use Rattle.rows.specs.Label.{Label}
 use Rattle.syntax.specs.Tree.{Tree, leaf, unary, Trees, none, more, size, sizes}
 use Rattle.syntax.specs.Read.{nullary, arityOf}
 use Rattle.syntax.proofs.RowsReadBack.{FitsLeaf, FitsOverOne, WellFormed, AllWellFormed}
-use Rattle.operators.specs.Operator.{among, binds, infixOf, rightOf, prefixOf, startOf}
-use Rattle.operators.specs.declared.operator.Start.{Start}
-use Rattle.operators.specs.declared.operator.Start.the-variants as start
+use Rattle.operators.specs.Operator.{among, binds, infixOf, rightOf, prefixOf}
+use Rattle.grammar.specs.Atom.{startOf}
+use Rattle.grammar.specs.declared.Start.{Start}
+use Rattle.grammar.specs.declared.Start.the-variants as start
 use Rattle.grammar.specs.Rules.{Reading, done, _>>=_, Reader, while, due, need, expression, finish, wholeExpression}
 use Rattle.grammar.specs.Rules.{nullOrNan, postfix, postfixes, numeral, column, group, argument, arguments, named, atom, operand, infixed, infixes, level}
-use Rattle.grammar.proofs.Going.{kind-is, prefix-in, infix-in, postfix-in}
+use Rattle.grammar.proofs.InTokens.{kind-is, prefix-in, infix-in, postfix-in}
 use Rattle.grammar.proofs.Readings.{Holds, weaken, after, either}
 use Rattle.grammar.proofs.Readings as readings
 use Rattle.grammar.proofs.OperatorRowsFit.{same-arity, infix-row-over-two, prefix-row-over-one, leaf?, plain-atom-is-leaf}
@@ -63,12 +64,12 @@ module _ (ts : List ℕ) (cap : ℕ) where
     pub rows : e .due + s .own ≡ s .due + e .own  -- the rows that came to be due are the trees' own
     pub grown : s .own + g ≤ e .own
     pub tokens : e .own + s .at ≤ e .at + s .own  -- each of them has a token of its own
-    pub inside : s .at ≤ tokenCount ts → e .at ≤ tokenCount ts
+    pub inside : e .at ≤ max (s .at) (tokenCount ts)
     pub formed : s .formed → e .formed
 
   -- a refusal at token p, after token lo and b rows due: NO_ROOM only where more tokens were read than there are rows
   pub record RefusedFrom (lo b : ℕ) (why : Refusal) (p : ℕ) : Type 0 where
-    pub full : eqb (refusalNumber why) (refusalNumber NoRoom) ≡ true → (cap + lo < b + p) × (lo ≤ tokenCount ts → p ≤ tokenCount ts)
+    pub full : eqb (refusalNumber why) (refusalNumber NoRoom) ≡ true → (cap + lo < b + p) × (p ≤ max lo (tokenCount ts))
 
   -- the reading r goes on from s
   abbrev pub Goes : ℕ → State → Reading → Type 0
@@ -87,7 +88,7 @@ module _ (ts : List ℕ) (cap : ℕ) where
   -- what goes on from where a reading has come goes on from where it began
   refused-on : {g : ℕ} {s e : State} → Onward g s e → (why : Refusal) (p : ℕ) → RefusedFrom (e .at) (e .due) why p → RefusedFrom (s .at) (s .due) why p
   refused-on o why p h =
-      record { full = λ t. let f = h .full t in (omega (arith, o .rows, o .tokens, f .0), λ i. f .1 (o .inside i)) }
+      record { full = λ t. let f = h .full t in (omega (arith, o .rows, o .tokens, f .0), omega (arith, o .inside, f .1)) }
 
   on : {g h : ℕ} {s e f : State} → Onward g s e → Onward h e f → Onward g s f
   on o p =
@@ -95,7 +96,7 @@ module _ (ts : List ℕ) (cap : ℕ) where
         rows = omega (arith, o .rows, p .rows);
         grown = omega (arith, o .grown, p .grown);
         tokens = omega (arith, o .tokens, p .tokens);
-        inside = λ i. p .inside (o .inside i);
+        inside = omega (arith, o .inside, p .inside);
         formed = λ w. p .formed (o .formed w);
       }
 
@@ -104,15 +105,15 @@ module _ (ts : List ℕ) (cap : ℕ) where
 
   -- what goes on from a later token goes on from an earlier one
   refused-earlier : {lo b : ℕ} (k : ℕ) → lo + k ≤ tokenCount ts → (why : Refusal) (p : ℕ) → RefusedFrom (lo + k) b why p → RefusedFrom lo b why p
-  refused-earlier k le why p f = record { full = λ t. (omega (arith, f .full t .0), λ i. f .full t .1 le) }
+  refused-earlier k le why p f = record { full = λ t. (omega (arith, f .full t .0), omega (arith, f .full t .1)) }
 
   goes-earlier : {g : ℕ} (k : ℕ) (s : State) {r : Reading} → s .at + k ≤ tokenCount ts → Goes g (past k s) r → Goes g s r
   goes-earlier k s le h =
       weaken h (refused-earlier k le)
-      (λ at used x o. record { rows = o .rows; grown = o .grown; tokens = omega (arith, o .tokens); inside = λ i. o .inside le; formed = o .formed })
+      (λ at used x o. record { rows = o .rows; grown = o .grown; tokens = omega (arith, o .tokens); inside = omega (arith, o .inside); formed = o .formed })
 
   stop : (at used : ℕ) (x : Tree) → Goes 0 (having at used x) (done at used x)
-  stop at used x = record { told = record { rows = refl; grown = omega arith; tokens = omega arith; inside = λ i. i; formed = λ w. w } }
+  stop at used x = record { told = record { rows = refl; grown = omega arith; tokens = omega arith; inside = omega arith; formed = λ w. w } }
 
   -- a loop whose steps go on
   pub while-goes : (more? : ℕ → Bool) (step : ℕ → ℕ → Tree → Reading) →
@@ -132,7 +133,7 @@ module _ (ts : List ℕ) (cap : ℕ) where
 module _ (text ts : List ℕ) (cap : ℕ) where
   -- a row is due, over what was read from s on
   due-goes : (s : State) (at used : ℕ) (x : Tree) → used + 1 + s .own ≡ s .due + size x → s .own + 1 ≤ size x → size x + s .at ≤ at + s .own →
-      (s .at ≤ tokenCount ts → at ≤ tokenCount ts) → (s .formed → WellFormed x) → Goes ts cap 1 s (due text ts cap at used x)
+      at ≤ max (s .at) (tokenCount ts) → (s .formed → WellFormed x) → Goes ts cap 1 s (due text ts cap at used x)
   unfolding due
   due-goes s at used x rows grown tokens inside formed =
       either (leb cap used)
@@ -143,7 +144,7 @@ module _ (text ts : List ℕ) (cap : ℕ) where
   leaf-goes : (l : Label) (at used : ℕ) → FitsLeaf l → at < tokenCount ts → Goes ts cap 1 (before at used) (due text ts cap (at + 1) used (leaf l))
   unfolding size
   leaf-goes l at used fits inside =
-      due-goes (before at used) (at + 1) used (leaf l) (omega arith) (omega arith) (omega arith) (λ i. omega arith) (λ w. fits)
+      due-goes (before at used) (at + 1) used (leaf l) (omega arith) (omega arith) (omega arith) (omega arith) (λ w. fits)
 
   -- a row over the tree that a reading comes to, from a token past s on
   over-goes : {g : ℕ} (k : ℕ) (s : State) {r : Reading} (l : Label) → FitsOverOne l → s .at + suc k ≤ tokenCount ts → Goes ts cap g (past (suc k) s) r →
@@ -151,7 +152,7 @@ module _ (text ts : List ℕ) (cap : ℕ) where
   unfolding size
   over-goes k s l fits le h =
       after _ h (refused-earlier ts cap (suc k) le)
-      (λ at used x o. due-goes s at used (unary l x) (omega (arith, o .rows)) (omega (arith, o .grown)) (omega (arith, o .tokens)) (λ i. o .inside le)
+      (λ at used x o. due-goes s at used (unary l x) (omega (arith, o .rows)) (omega (arith, o .grown)) (omega (arith, o .tokens)) (omega (arith, o .inside))
       (λ w. (fits, o .formed w)))
 
   -- and over x, with token `at` as its operator
@@ -213,7 +214,7 @@ module _ (text ts : List ℕ) (cap : ℕ) where
     arguments-goes f (suc turns) at used xs =
         either (eqb (kindAt ts at) kind.closeParen)
         (λ e. let there = kind-is ts at kind.closeParen (omega arith) (eqb-true _ _ e) in
-        due-goes (havingAll at used xs) (at + 1) used _ (omega arith) (omega arith) (omega arith) (λ i. omega arith)
+        due-goes (havingAll at used xs) (at + 1) used _ (omega arith) (omega arith) (omega arith) (omega arith)
         (λ w. ((refl, refl), w)))
         (λ e. after _ (argument-goes xs at used) (λ why p h. h)
         (λ at₁ used₁ x o. goes-on ts cap (one-more at used xs at₁ used₁ x o) (arguments-goes f turns at₁ used₁ (more xs x))))
@@ -245,7 +246,7 @@ module _ (text ts : List ℕ) (cap : ℕ) where
         (after _ (goes 0 (at + 1) used) (λ why p h. h)
         (λ at₁ used₁ x o. need-goes (before (at + 1) used) kind.closeParen NeedClose refl at₁ _
         (λ f. let there = kind-is ts at₁ kind.closeParen (omega arith) f in
-        record { told = record { rows = o .rows; grown = o .grown; tokens = omega (arith, o .tokens); inside = λ i. omega arith; formed = o .formed } })))
+        record { told = record { rows = o .rows; grown = o .grown; tokens = omega (arith, o .tokens); inside = omega arith; formed = o .formed } })))
     atom-goes (start.Plain kind x) at used e inside = leaf-goes _ at used (same-arity nullary (arityOf kind) e) inside
     atom-goes start.Other at used e inside = record { told = other ts cap refl }
 
@@ -275,7 +276,7 @@ module _ (text ts : List ℕ) (cap : ℕ) where
         let inside : at + 1 ≤ tokenCount ts = omega (arith, infix-in ts at m e) in
         after _ (goes (rightOf k) (at + 1) used) (refused-earlier ts cap 1 inside)
         (λ at₁ used₁ y o. due-goes (having at used x) at₁ used₁ _ (omega (arith, o .rows)) (omega arith)
-        (omega (arith, o .tokens)) (λ i. o .inside inside) (λ w. ((infix-row-over-two k m e, refl), (w, o .formed tt))))
+        (omega (arith, o .tokens)) (omega (arith, o .inside)) (λ w. ((infix-row-over-two k m e, refl), (w, o .formed tt))))
 
     pub infixes-goes : (m at used : ℕ) (x : Tree) → Goes ts cap 0 (having at used x) (infixes text ts cap rec m at used x)
     unfolding infixes

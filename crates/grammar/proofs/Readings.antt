@@ -57,7 +57,7 @@ either true f g = f refl
 either false f g = g refl
 
 module _ (text ts : List ℕ) (cap : ℕ) {P : ℕ → ℕ → Tree → Type 0} {R : Refusal → ℕ → Type 0} (why : Refusal) (at : ℕ) (end : R End at) (other : R why at) where
-  pub missing-holds : Holds P R (missing text ts cap why at)
+  missing-holds : Holds P R (missing text ts cap why at)
   unfolding missing
   missing-holds = either (eqb (kindAt ts at) kind.none) (λ e. record { told = end }) (λ e. record { told = other })
 

@@ -4,7 +4,7 @@
 -- Assumes nothing.
 use mathlib.Core.Path.{_≡_, refl, sym, _∙_}
 use mathlib.Core.List.{List}
-use Prim.Native.Nat.{ℕ, _+_, _≤_, _<_}
+use Prim.Native.Nat.{ℕ, _+_, _≤_, _<_, max}
 use native.Mathlib.Omega.{arith}
 use native.Mathlib.Nat.{le-refl}
 use borrow.Author.Tests.{leb-true, leb-false}
@@ -22,7 +22,7 @@ pub room-enough : (text ts : List ℕ) (cap : ℕ) → tokenCount ts ≤ cap →
 room-enough text ts cap large levels p e =
     let full = told-of e (wholeExpression-goes text ts cap levels) .full refl in
     let more : cap + 0 < 0 + p = full .0 in
-    let within : p ≤ tokenCount ts = full .1 (omega arith) in
+    let within : p ≤ max 0 (tokenCount ts) = full .1 in
     omega arith
 
 module _ (text ts : List ℕ) (levels cap : ℕ) where
@@ -33,7 +33,9 @@ module _ (text ts : List ℕ) (levels cap : ℕ) where
   -- every table of at least as many rows as tokens gives it
   pub larger-same : tokenCount ts ≤ cap → wholeExpression text ts cap levels ≡ unlimited text ts levels
   unfolding unlimited
-  larger-same large = large-same (same-or-no-room text ts (tokenCount ts) cap large levels) (room-enough text ts (tokenCount ts) (le-refl (tokenCount ts)) levels)
+  larger-same large =
+      large-same (same-or-no-room text ts (tokenCount ts) cap large levels)
+      (room-enough text ts (tokenCount ts) (le-refl (tokenCount ts)) levels)
 
   module _ {at used : ℕ} {x : Tree} where
     pub accepted-if : unlimited text ts levels ≡ done at used x → size x ≤ cap → wholeExpression text ts cap levels ≡ done at used x

@@ -21,13 +21,14 @@ use Rattle.numbers.specs.declared.Number.{Number}
 use Rattle.numbers.specs.declared.Number.the-variants.{Integer, Float, Neither}
 use Rattle.refusals.specs.declared.Refusal.{Refusal}
 use Rattle.refusals.specs.declared.Refusal.the-variants.{NoRoom, NeedClose, NeedComma, NeedName, NeedNullOrNan}
-use Rattle.operators.specs.Operator.{binds, rightOf, prefixOf, startOf}
-use Rattle.operators.specs.declared.operator.Start.{Start}
-use Rattle.operators.specs.declared.operator.Start.the-variants as start
+use Rattle.operators.specs.Operator.{binds, rightOf, prefixOf}
+use Rattle.grammar.specs.Atom.{startOf}
+use Rattle.grammar.specs.declared.Start.{Start}
+use Rattle.grammar.specs.declared.Start.the-variants as start
 use Rattle.syntax.specs.Tree.{Tree, Trees, none, more, size}
 use Rattle.grammar.specs.Rules.{Reading, done, refuse, _>>=_, Reader}
 use Rattle.grammar.specs.Rules as T
-use Rattle.grammar.proofs.Going.{postfix-in}
+use Rattle.grammar.proofs.InTokens.{postfix-in}
 use Rattle.grammar.proofs.Readings.{by-cases, Holds, Any, told-of, weaken, need-holds}
 use Rattle.grammar.proofs.Readings as R
 use Rattle.grammar.proofs.ReadingAdvances.{State, before, having, Goes, keeps, goes-on, expression-goes, wholeExpression-goes}

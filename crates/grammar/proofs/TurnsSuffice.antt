@@ -2,25 +2,22 @@
 --   postfixes-loop, infixes-loop, arguments-loop: a turn of the loop, and then the same loop again;
 --   postfixes-end, infixes-end: it ends only where there is no operator left to take.
 -- Assumes nothing.
-use mathlib.Core.Path.{_≡_, refl, sym, ap, _∙_}
+use mathlib.Core.Path.{_≡_, refl, sym, _∙_}
 use mathlib.Core.Bool.{Bool, true, false}
 use mathlib.Core.List.{List}
 use Prim.Native.Nat.{ℕ, zero, suc, _+_, _≤_, _<_}
 use native.Mathlib.Omega.{arith}
-use borrow.Author.Tests.{ne-eqb}
 use lib.Dec.{eqb}
 use Rattle.tokens.specs.Kind as kind
 use Rattle.tokens.specs.Token.{tokenCount, kindAt}
-use Rattle.tokens.proofs.TokenTable.{kind-missing}
-use Rattle.refusals.specs.declared.Refusal.the-variants.{End, NeedComma}
-use Rattle.operators.specs.Operator.{among, binds, infixOf, prefixOf, postfixOf, startOf}
+use Rattle.operators.specs.Operator.{binds, infixOf, postfixOf}
 use Rattle.rows.specs.Label.{label}
 use Rattle.syntax.specs.Kind as row
-use Rattle.syntax.specs.Tree.{Tree, call, Trees, none, more}
-use Rattle.grammar.specs.Rules.{Reading, done, refuse, _>>=_, Reader, while, due, need}
-use Rattle.grammar.specs.Rules.{postfix, postfixes, argument, arguments, atom, operand, infixed, infixes, level, expression}
-use Rattle.grammar.proofs.Going.{infix-in, postfix-in}
-use Rattle.grammar.proofs.Readings.{by-cases, Holds, Any, told-of, after, either, missing-holds}
+use Rattle.syntax.specs.Tree.{Tree, call, Trees, more}
+use Rattle.grammar.specs.Rules.{Reading, done, refuse, _>>=_, Reader, while, due}
+use Rattle.grammar.specs.Rules.{postfix, postfixes, argument, arguments, infixed, infixes, expression}
+use Rattle.grammar.proofs.InTokens.{infix-in, postfix-in}
+use Rattle.grammar.proofs.Readings.{by-cases, Holds, Any, told-of, after, either}
 use Rattle.grammar.proofs.ReadingAdvances.{State, having, Goes, advances, postfix-goes, argument-goes, infixed-goes, expression-goes}
 
 -- what follows a reading that advances may be taken with other turns
@@ -30,14 +27,11 @@ unfolding _>>=_
 bind-same {ts} {cap} k l (done at used x) h e = e at used x (advances ts cap (h .told))
 bind-same k l (refuse why p) h e = refl
 
--- a reading that is refused, whatever may follow
-abbrev Never : Reading → Type 0
-Never r = Holds (λ at used x. ⊥) Any r
-
-bind-none : (k l : ℕ × ℕ × Tree → Reading) (r : Reading) → Never r → r >>= k ≡ r >>= l
+-- at the end of the tokens a reading that reads a token is refused: what follows does not matter
+bind-ended : {ts : List ℕ} {cap : ℕ} {s : State} (k l : ℕ × ℕ × Tree → Reading) (r : Reading) → Goes ts cap 1 s r → tokenCount ts ≤ s .at → r >>= k ≡ r >>= l
 unfolding _>>=_
-bind-none k l (done at used x) h = absurd (h .told)
-bind-none k l (refuse why p) h = refl
+bind-ended {ts} {cap} k l (done at used x) h le = absurd (omega (arith, advances ts cap (h .told), h .told .inside))
+bind-ended k l (refuse why p) h le = refl
 
 -- loops over ts, of steps that advance, that turn only where there is a token
 module _ (ts : List ℕ) (cap : ℕ) (more? : ℕ → Bool) (step : ℕ → ℕ → Tree → Reading)
@@ -121,25 +115,6 @@ module _ (text ts : List ℕ) (cap : ℕ) where
         (ended ts cap _ _ (infixed-goes text ts cap rec (expression-goes text ts cap levels) m) (λ at e. infix-in ts at m e) (tokenCount ts) at used x
         (omega arith))
 
-    -- at the end of the tokens nothing is read
-    operand-ended : (read : Reader) (m at used : ℕ) → tokenCount ts ≤ at → operand text ts cap read m at used ≡ refuse End at
-    unfolding operand prefixOf startOf among binds atom
-    operand-ended read m at used le =
-        let none = kind-missing ts at le in
-        rw (none, operand) (ap (λ (k : ℕ). atom text ts cap read (startOf k) at used) none)
-
-    expression-ended : (levels m at used : ℕ) → tokenCount ts ≤ at → Never (expression text ts cap levels m at used)
-    unfolding expression level _>>=_
-    expression-ended zero m at used le = record { told = tt }
-    expression-ended (suc levels) m at used le = rw (operand-ended (expression text ts cap levels) m at used le, level) (record { told = tt })
-
-    argument-ended : (xs : Trees) (at used : ℕ) → tokenCount ts ≤ at → Never (argument text ts cap rec xs at used)
-    unfolding argument need
-    argument-ended none at used le = expression-ended levels 0 at used le
-    argument-ended (more xs x) at used le =
-        let other : kindAt ts at ≡ kind.comma → ⊥ = λ e. let same : kind.comma ≡ 0 = sym e ∙ kind-missing ts at le in omega arith in
-        rw (ne-eqb (kindAt ts at) kind.comma other, need) (missing-holds text ts cap NeedComma at tt tt)
-
     abbrev Arguments : ℕ → ℕ → ℕ → ℕ → Trees → Reading
     Arguments = arguments text ts cap rec
 
@@ -158,7 +133,9 @@ module _ (text ts : List ℕ) (cap : ℕ) where
       arguments-ended : (turns others : ℕ) → tokenCount ts ≤ at → Arguments f (suc turns) at used xs ≡ Arguments f (suc others) at used xs
       arguments-ended turns others le =
           by-cases (eqb (kindAt ts at) kind.closeParen) (λ e. arguments-end turns e ∙ sym (arguments-end others e))
-          (λ e. arguments-turn turns e ∙ bind-none _ _ _ (argument-ended xs at used le) ∙ sym (arguments-turn others e))
+          (λ e. arguments-turn turns e
+          ∙ bind-ended _ _ _ (argument-goes text ts cap rec (expression-goes text ts cap levels) xs at used) le
+          ∙ sym (arguments-turn others e))
 
     arguments-enough : (f turns others at used : ℕ) (xs : Trees) → tokenCount ts ≤ turns + at → tokenCount ts ≤ others + at →
         Arguments f (suc turns) at used xs ≡ Arguments f (suc others) at used xs

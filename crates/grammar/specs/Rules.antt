@@ -13,9 +13,10 @@ use Rattle.refusals.specs.declared.Refusal.{Refusal}
 use Rattle.refusals.specs.declared.Refusal.the-variants.{End, NoAtom, LeftOver, BadNumber, TooDeep, NoRoom, NeedClose, NeedComma, NeedName, NeedNullOrNan}
 use Rattle.rows.specs.Label.{label}
 use Rattle.syntax.specs.Kind as row
-use Rattle.operators.specs.Operator.{infixOf, rightOf, prefixOf, postfixOf, binds, startOf}
-use Rattle.operators.specs.declared.operator.Start.{Start}
-use Rattle.operators.specs.declared.operator.Start.the-variants as start
+use Rattle.operators.specs.Operator.{infixOf, rightOf, prefixOf, postfixOf, binds}
+use Rattle.grammar.specs.Atom.{startOf}
+use Rattle.grammar.specs.declared.Start.{Start}
+use Rattle.grammar.specs.declared.Start.the-variants as start
 use Rattle.syntax.specs.Tree.{Tree, leaf, unary, binary, call, Trees, none, more}
 
 -- what a reading comes to: the next token, the rows due so far and the tree; or a refusal and its place

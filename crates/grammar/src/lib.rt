@@ -3,6 +3,17 @@
 // specs/ has the rules; docs/FORMAT.md has them in words.
 use refusals::Refusal;
 
+// What an atom starts with. Plain is a whole atom: its row's kind, and x.
+pub enum Start {
+    Nothing,
+    Number,
+    Text,
+    Name,
+    Paren,
+    Plain(u64, u64),
+    Other,
+}
+
 // The next token, and how many rows are written. The last of them is the root of what was read last.
 pub struct Cursor {
     pub at: usize,
@@ -13,16 +24,4 @@ pub struct Cursor {
 pub enum Step {
     Read(Cursor),
     Refused(Refusal, usize),
-}
-
-// An operand of one token, by its row's kind and x; `Not` says nothing.
-pub enum Single {
-    Row(u64, u64),
-    Not,
-}
-
-// Where openings end: the next token, and how many levels are left there.
-pub struct Opened {
-    pub at: usize,
-    pub left: usize,
 }

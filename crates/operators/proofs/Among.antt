@@ -72,6 +72,6 @@ among-every {A} q k d (p ∷ ps) none all = by (eqb k (p .0)) (among-every q k d
     by false rest = rest
 
 -- the precedence of an infix operator is at most 8
-pub precedence-most : (k : ℕ) → infixOf k .precedence ≤ 8
+pub infix-precedence-at-most-8 : (k : ℕ) → infixOf k .precedence ≤ 8
 unfolding infixOf most
-precedence-most k = among-most (λ (o : Operator). o .precedence) 8 k no infixTable (omega arith) refl
+infix-precedence-at-most-8 k = among-most (λ (o : Operator). o .precedence) 8 k no infixTable (omega arith) refl

@@ -1,3 +1,2 @@
 -- Laws of the definitions that the functions' proofs, here and in the crates above, cite.
 pub mod Among
-pub mod Ends

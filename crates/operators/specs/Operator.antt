@@ -1,13 +1,10 @@
--- Operators, and what an atom starts with, by the kind of a token (FORMAT §4).
-use mathlib.Core.Path.{_≡_}
+-- Operators by the kind of their token (FORMAT §4.1): precedences, and the kinds of their rows.
 use Prim.Native.Nat.{ℕ, _+_}
 use mathlib.Core.Bool.{Bool, true, false, _&&_}
 use mathlib.Core.List.{List, [], _∷_}
 use lib.Dec.{eqb, ltb, leb}
 use Rattle.tokens.specs.Kind as kind
 use Rattle.syntax.specs.Kind as row
-use Rattle.operators.specs.declared.operator.Start.{Start}
-use Rattle.operators.specs.declared.operator.Start.the-variants.{Nothing, Number, Text, Name, Paren, Plain, Other}
 
 -- what stands beside k in a list of pairs, or else d
 unfoldable pub among : {A : Type 0} → ℕ → A → List (ℕ × A) → A
@@ -71,36 +68,3 @@ postfixOf k = among k 0 postfixTable
 -- p is the precedence of an operator, and at least m
 unfoldable pub binds : ℕ → ℕ → Bool
 binds p m = ltb 0 p && leb m p
-
--- what an atom starts with: Plain is a whole atom, with its row's kind and x
-abbrev pub startTable : List (ℕ × Start)
-startTable =
-    ((kind.none, Nothing)
-    ∷ (kind.number, Number)
-    ∷ (kind.string, Text)
-    ∷ (kind.ident, Name)
-    ∷ (kind.asterisk, Plain row.all 0)
-    ∷ (kind.NULL, Plain row.null 0)
-    ∷ (kind.NAN, Plain row.nan 0)
-    ∷ (kind.TRUE, Plain row.boolean 1)
-    ∷ (kind.FALSE, Plain row.boolean 0)
-    ∷ (kind.INFINITY, Plain row.infinity 0)
-    ∷ (kind.openParen, Paren)
-    ∷ [])
-
-unfoldable pub startOf : ℕ → Start
-startOf k = among k Other startTable
-
--- No entry's promise names the two that follow: they are what is said of the token after an operand.
-
--- k lies among the operators that may follow an operand: the infix ones, and after them the postfix ones
-unfoldable pub operates : ℕ → Bool
-operates k = leb kind.OR k && leb k kind.IS
-
--- an operand of one token ends before a token of kind k, at the minimum m: no operator of at least m follows it, and it is no call and no
--- qualified name
-pub record Ends (k m : ℕ) : Type 0 where
-  pub noInfix : binds (infixOf k .precedence) m ≡ false
-  pub noPostfix : binds (postfixOf k) m ≡ false
-  pub paren : k ≡ kind.openParen → ⊥
-  pub period : k ≡ kind.period → ⊥

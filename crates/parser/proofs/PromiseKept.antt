@@ -17,7 +17,7 @@ use Rattle.rows.proofs.Laws.{laid-out, capacity-count}
 use Rattle.syntax.specs.Tree.{size, rowsOf}
 use Rattle.grammar.specs.Rules.{Reading}
 use Rattle.grammar.specs.Rules as T
-use Rattle.grammar.specs.Memory.{Out, done, refuse, Gives, whole}
+use Rattle.grammar.specs.Memory.{Out, done, refuse, Gives, wholeExpression}
 use Rattle.parser.specs.Inner.{outAfterCheck, parsingOut, RefusedAndCleared}
 use Rattle.parser.specs.Promise.{afterCheck, parsing, answerOf, tableOf, parseNumbers, Answers, Parses}
 use Rattle.parser.specs.declared.Parsed.{Parsed}
@@ -26,7 +26,7 @@ use Rattle.grammar.specs.declared.Cursor.{Cursor}
 use Rattle.grammar.specs.declared.Step.{Step}
 use Rattle.grammar.specs.declared.Step.the-variants.{Read, Refused}
 use Rattle.syntax.proofs.Lengths.{length-rows}
-use Rattle.grammar.proofs.Steps.{same-as, ends}
+use Rattle.grammar.proofs.Answers.{gives-same, gives-refusal}
 use Rattle.grammar.proofs.LaidOut.{cursor, Laid, refusal-laid}
 use Rattle.grammar.proofs.MemoryFollowsTrees.{wholeExpression-laid}
 
@@ -46,22 +46,22 @@ answers (T.refuse why at) answer table = record { answer = answer; table = table
 
 module _ (text ts t : List ℕ) (levels : ℕ) where
   -- the table's check, and what it leaves to read
-  pub read-if-good : {k : Checked} {n : ℕ} {r : Step} {u : List ℕ} → k ≡ checkTable text ts → k ≡ table.Good n → Gives (whole text ts levels t) r u →
+  pub read-if-good : {k : Checked} {n : ℕ} {r : Step} {u : List ℕ} → k ≡ checkTable text ts → k ≡ table.Good n → Gives (wholeExpression text ts levels t) r u →
       Gives (parsingOut text ts levels t) r u
   unfolding parsingOut
-  read-if-good is good = same-as (sym (ap (λ (k : Checked). outAfterCheck k (whole text ts levels t)) (sym is ∙ good)))
+  read-if-good is good = gives-same (sym (ap (λ (k : Checked). outAfterCheck k (wholeExpression text ts levels t)) (sym is ∙ good)))
 
   pub refused-if-bad : {k : Checked} {why : Refusal} {at : ℕ} {u : List ℕ} → k ≡ checkTable text ts → k ≡ table.Refused why at →
       Gives (parsingOut text ts levels t) (Refused why at) u
   unfolding parsingOut
-  refused-if-bad is bad = ends (ap (λ (k : Checked). outAfterCheck k (whole text ts levels t)) (sym is ∙ bad))
+  refused-if-bad is bad = gives-refusal (ap (λ (k : Checked). outAfterCheck k (wholeExpression text ts levels t)) (sym is ∙ bad))
 
   -- it is the same at both levels
   parsing-laid : Laid (capacity t) t 0 (parsingOut text ts levels t) (parsing text ts (capacity t) levels)
   unfolding parsing parsingOut
   parsing-laid = by (checkTable text ts)
     where
-      by : (k : Checked) → Laid (capacity t) t 0 (outAfterCheck k (whole text ts levels t)) (afterCheck k (T.wholeExpression text ts (capacity t) levels))
+      by : (k : Checked) → Laid (capacity t) t 0 (outAfterCheck k (wholeExpression text ts levels t)) (afterCheck k (T.wholeExpression text ts (capacity t) levels))
       by (table.Good n) = wholeExpression-laid text ts (capacity t) levels t refl
       by (table.Refused why at) = refusal-laid (capacity t)
 

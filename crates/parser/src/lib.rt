@@ -7,7 +7,7 @@ use refusals::Refusal;
 use tokens::table;
 use tokens::table::Checked;
 ghost use Rattle.limits.specs.Limits.{levelMax};
-ghost use Rattle.grammar.specs.Memory.{Gives, whole as wholeExpression};
+ghost use Rattle.grammar.specs.Memory.{Gives, wholeExpression};
 ghost use Rattle.parser.specs.Inner.{parsingOut, RefusedAndCleared};
 ghost use Rattle.parser.specs.Promise.{Parses};
 

@@ -1,7 +1,7 @@
 // The steps of a reading that call no reader: what `reader` is made of.
 //
 // The definitions that they keep to stand in `grammar`; docs/FORMAT.md has them in words.
-pub mod leaf;
-pub mod opening;
+pub mod atom;
 pub mod postfix;
-pub mod step;
+pub mod push;
+pub mod token;

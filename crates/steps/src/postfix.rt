@@ -1,7 +1,6 @@
 // Postfix operators.
-use crate::step::again;
-use crate::step::need;
-use crate::step::over;
+use crate::push::push_over_last;
+use crate::token::need;
 use grammar::Cursor;
 use grammar::Step;
 use refusals::Refusal;
@@ -14,7 +13,7 @@ ghost use Rattle.tokens.specs.Token.{tokenCount, kindAt};
 ghost use Rattle.operators.specs.Operator.{postfixOf, binds};
 ghost use Rattle.grammar.specs.Memory.{Gives, nullOrNan as nullOrNanOf, postfix as postfixOn, postfixes as postfixesOf};
 
-// NULL or NAN, after IS.
+// Reads NULL or NAN, after IS.
 fn null_or_nan(tokens: &[u32], rows: &mut [u64], c: Cursor) -> Step
     requires { ⌜ 0 < c .rows ⌝ }
     ensures { λ r. ⌜ Gives (nullOrNanOf (now (tokens .entry)) c (now (rows .entry))) r (now (rows .exit)) ⌝ }
@@ -23,16 +22,16 @@ fn null_or_nan(tokens: &[u32], rows: &mut [u64], c: Cursor) -> Step
     let n = c.rows;
     if kind_at(tokens, at) == kind::NULL {
         let after = at + 1;
-        return over(rows, Cursor { at: after, rows: n }, row::IS, 0);
+        return push_over_last(rows, Cursor { at: after, rows: n }, row::IS, 0);
     }
     let s = need(tokens, c, kind::NAN, Refusal::NeedNullOrNan);
     let Step::Read(d) = s else {
         return s;
     };
-    over(rows, d, row::IS, 1)
+    push_over_last(rows, d, row::IS, 1)
 }
 
-// One postfix operator: `!`, or IS and perhaps NOT.
+// Reads one postfix operator: `!`, or IS and perhaps NOT.
 fn postfix(tokens: &[u32], rows: &mut [u64], c: Cursor) -> Step
     requires { ⌜ (c .at < tokenCount (now tokens)) × (0 < c .rows) ⌝ }
     ensures { λ r. ⌜ Gives (postfixOn (now (tokens .entry)) c (now (rows .entry))) r (now (rows .exit)) ⌝ }
@@ -41,7 +40,7 @@ fn postfix(tokens: &[u32], rows: &mut [u64], c: Cursor) -> Step
     let n = c.rows;
     let after = at + 1;
     if kind_at(tokens, at) == kind::EXCLAMATION {
-        return over(rows, Cursor { at: after, rows: n }, row::FACTORIAL, 0);
+        return push_over_last(rows, Cursor { at: after, rows: n }, row::FACTORIAL, 0);
     }
     if kind_at(tokens, after) != kind::NOT {
         return null_or_nan(tokens, rows, Cursor { at: after, rows: n });
@@ -51,21 +50,17 @@ fn postfix(tokens: &[u32], rows: &mut [u64], c: Cursor) -> Step
     let Step::Read(d) = s else {
         return s;
     };
-    over(rows, d, row::NOT, 0)
+    push_over_last(rows, d, row::NOT, 0)
 }
 
-// Is the token at `at` a postfix operator of at least `min`? `!` has precedence 9, and IS 4.
+// Tells if the token at `at` is a postfix operator of at least `min`.
 pub fn postfix_at(tokens: &[u32], at: usize, min: u32) -> bool
     ensures { λ r. ⌜ r ≡ binds (postfixOf (kindAt (now (tokens .entry)) at)) min ⌝ }
 {
-    match kind_at(tokens, at) {
-        kind::EXCLAMATION => min <= 9,
-        kind::IS => min <= 4,
-        _ => false,
-    }
+    operators::binds(operators::postfix_precedence(kind_at(tokens, at)), min)
 }
 
-// The postfix operators of at least `min`, while there are any.
+// Reads the postfix operators of at least `min`, while there are any.
 pub fn postfixes(tokens: &[u32], rows: &mut [u64], start: Cursor, min: u32) -> Step
     requires { ⌜ (start .at ≤ tokenCount (now tokens)) × (0 < start .rows) ⌝ }
     ensures { λ r. ⌜ Gives (postfixesOf (now (tokens .entry)) min start (now (rows .entry))) r (now (rows .exit)) ⌝ }
@@ -82,17 +77,4 @@ pub fn postfixes(tokens: &[u32], rows: &mut [u64], start: Cursor, min: u32) -> S
         };
         c = next;
     }
-}
-
-// The same for where there are most often none: a test, and a call only where there is one.
-pub fn any_postfixes(tokens: &[u32], rows: &mut [u64], c: Cursor, min: u32) -> Step
-    requires { ⌜ (c .at ≤ tokenCount (now tokens)) × (0 < c .rows) ⌝ }
-    ensures { λ r. ⌜ Gives (postfixesOf (now (tokens .entry)) min c (now (rows .entry))) r (now (rows .exit)) ⌝ }
-{
-    let at = c.at;
-    let n = c.rows;
-    if !postfix_at(tokens, at, min) {
-        return Step::Read(Cursor { at, rows: n });
-    }
-    again(postfixes(&*tokens, rows, Cursor { at, rows: n }, min))
 }

@@ -34,10 +34,6 @@ unfoldable pub many : Trees → ℕ
 many none = 0
 many (more xs x) = many xs + 1
 
--- a row
-abbrev pub rowOf : ℕ → ℕ → ℕ → Row
-rowOf kind x y = record { kind = kind; x = x; y = y }
-
 -- the root's row, where the tree's first row is n
 abbrev pub root : ℕ → Tree → ℕ
 root n a = n + size a - 1

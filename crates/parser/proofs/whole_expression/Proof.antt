@@ -1,8 +1,9 @@
 -- `whole_expression` meets its contract: the expression, and then whether tokens are left.
 -- Assumes nothing.
 use mathlib.Core.Path.{refl, _∙_}
-use Rattle.grammar.specs.Memory.{whole}
-use Rattle.grammar.proofs.Steps.{on, refused, ends, stays, finish-over, finish-done}
+use Rattle.grammar.specs.Memory.{wholeExpression}
+use Rattle.grammar.proofs.Answers.{after-read, after-refused, gives-refusal, gives-read}
+use Rattle.grammar.proofs.RuleCases.{finish-over, finish-done}
 use borrow.Author.Needs.{needs}
 use Rattle.parser.proofs.whole_expression.Statement.{statement}
 use Rattle.parser.proofs.whole_expression.Tie as tie
@@ -20,10 +21,10 @@ same-length : tie.Need-same-length
 same-length c = search needs
 
 returns : tie.Need-returns
-unfolding whole
+unfolding wholeExpression
 returns c =
     let expression = c .before .before .before .before .expression in
-    refused _ (c .enum-told .given .1) (expression .ensures) refl
+    after-refused _ (c .enum-told .given .1) (expression .ensures) refl
 
 count-requires : tie.Need-count-requires
 count-requires c κs = search needs
@@ -32,21 +33,21 @@ same-length-2 : tie.Need-same-length-2
 same-length-2 c = search needs
 
 returns-2 : tie.Need-returns-2
-unfolding whole
+unfolding wholeExpression
 returns-2 c =
     let expression = c .before .before .before .before .before .before .before .expression in
     let s = c .before .before .before .s in
-    ends (on _ (s .given .1) (expression .ensures) ∙ finish-over _ _ _ (rw (c .before .count .ensures) at (c .if1 .taken)))
+    gives-refusal (after-read _ (s .given .1) (expression .ensures) ∙ finish-over _ _ _ (rw (c .before .count .ensures) at (c .if1 .taken)))
 
 same-length-3 : tie.Need-same-length-3
 same-length-3 c = search needs
 
 returns-3 : tie.Need-returns-3
-unfolding whole
+unfolding wholeExpression
 returns-3 c =
     let expression = c .before .before .before .before .before .before .before .expression in
     let s = c .before .before .before .s in
-    stays (on _ (s .given .1) (expression .ensures) ∙ finish-done _ _ _ (rw (c .before .count .ensures) at (c .if1 .left)))
+    gives-read (after-read _ (s .given .1) (expression .ensures) ∙ finish-done _ _ _ (rw (c .before .count .ensures) at (c .if1 .left)))
 
 pub whole-expression-spec : {M : Type 1} → statement M
 whole-expression-spec =

@@ -10,14 +10,14 @@ use Rattle.reader.proofs.infix_at.Tie as tie
 kind-at-requires : tie.Need-kind-at-requires
 kind-at-requires c κs = search needs
 
-precedence-of-requires : tie.Need-precedence-of-requires
-precedence-of-requires c κs = search needs
+infix-precedence-requires : tie.Need-infix-precedence-requires
+infix-precedence-requires c κs = search needs
 
 binds-requires : tie.Need-binds-requires
 binds-requires c κs = search needs
 
 returns : tie.Need-returns
-returns c = c .binds .ensures ∙ ap (λ (p : ℕ). binds p (c .before .before .before .before .args .min)) (c .before .precedence-of .ensures ∙ ap (λ (k : ℕ). infixOf k .precedence) (c .before .before .kind-at .ensures))
+returns c = c .binds .ensures ∙ ap (λ (p : ℕ). binds p (c .before .before .before .before .args .min)) (c .before .infix-precedence .ensures ∙ ap (λ (k : ℕ). infixOf k .precedence) (c .before .before .kind-at .ensures))
 
 pub infix-at-spec : {M : Type 1} → statement M
-infix-at-spec = tie.close (tie.spec kind-at-requires precedence-of-requires binds-requires returns)
+infix-at-spec = tie.close (tie.spec kind-at-requires infix-precedence-requires binds-requires returns)

@@ -3,8 +3,11 @@
 use native.Mathlib.Omega.{arith}
 use mathlib.Core.Path.{sym, _∙_}
 use Rattle.tokens.specs.Kind as kind
-use Rattle.grammar.proofs.Steps.{on, same-as, refused, null-is, null-not}
-use Rattle.grammar.proofs.Going.{kind-is, came, need-some}
+use Rattle.grammar.proofs.Answers.{after-read, gives-same, after-refused}
+use Rattle.grammar.proofs.RuleCases.{null-is, null-not}
+use Rattle.grammar.proofs.InTokens.{kind-is}
+use Rattle.grammar.proofs.Reached.{came}
+use Rattle.grammar.proofs.RowWritten.{need-writes}
 use borrow.Author.Needs.{needs}
 use Rattle.steps.proofs.postfix.null_or_nan.Statement.{statement}
 use Rattle.steps.proofs.postfix.null_or_nan.Tie as tie
@@ -15,14 +18,14 @@ kind-at-requires c κs = search needs
 add-after : tie.Need-add-after
 add-after c = omega (arith, kind-is _ _ kind.NULL (omega arith) (sym (c .before .kind-at .ensures) ∙ c .if1 .taken))
 
-over-requires : tie.Need-over-requires
-over-requires c κs = search needs
+push-over-last-requires : tie.Need-push-over-last-requires
+push-over-last-requires c κs = search needs
 
 same-length : tie.Need-same-length
 same-length c = search needs
 
 returns : tie.Need-returns
-returns c = same-as (sym (null-is _ _ _ (sym (c .before .before .before .before .before .kind-at .ensures) ∙ c .before .before .before .before .if1 .taken))) (c .before .before .over .ensures)
+returns c = gives-same (sym (null-is _ _ _ (sym (c .before .before .before .before .before .kind-at .ensures) ∙ c .before .before .before .before .if1 .taken))) (c .before .before .push-over-last .ensures)
 
 need-requires : tie.Need-need-requires
 need-requires c κs = search needs
@@ -34,16 +37,16 @@ enum-told : tie.Need-enum-told
 enum-told c = search needs
 
 returns-2 : tie.Need-returns-2
-returns-2 c = refused _ (c .enum-told .given .1) (c .before .before .need .ensures _) (sym (null-not _ _ _ (λ e. c .before .before .before .if1 .left (c .before .before .before .before .kind-at .ensures ∙ e))))
+returns-2 c = after-refused _ (c .enum-told .given .1) (c .before .before .need .ensures _) (sym (null-not _ _ _ (λ e. c .before .before .before .if1 .left (c .before .before .before .before .kind-at .ensures ∙ e))))
 
-over-requires-2 : tie.Need-over-requires-2
-over-requires-2 c κs = came (c .before .before .s .given .1) (c .before .before .before .before .need .ensures (c .before .before .before .before .before .before .before .before .before .args .rows .now)) (need-some _ _ _ _ _ (c .before .before .before .before .before .before .before .before .before .pre))
+push-over-last-requires-2 : tie.Need-push-over-last-requires-2
+push-over-last-requires-2 c κs = came (c .before .before .s .given .1) (c .before .before .before .before .need .ensures (c .before .before .before .before .before .before .before .before .before .args .rows .now)) (need-writes _ _ _ _ _ (c .before .before .before .before .before .before .before .before .before .pre))
 
 same-length-2 : tie.Need-same-length-2
 same-length-2 c = search needs
 
 returns-3 : tie.Need-returns-3
-returns-3 c = same-as (sym (on _ (c .before .before .before .before .before .s .given .1) (c .before .before .before .before .before .before .before .need .ensures _)) ∙ sym (null-not _ _ _ (λ e. c .before .before .before .before .before .before .before .before .if1 .left (c .before .before .before .before .before .before .before .before .before .kind-at .ensures ∙ e)))) (c .before .before .over2 .ensures)
+returns-3 c = gives-same (sym (after-read _ (c .before .before .before .before .before .s .given .1) (c .before .before .before .before .before .before .before .need .ensures _)) ∙ sym (null-not _ _ _ (λ e. c .before .before .before .before .before .before .before .before .if1 .left (c .before .before .before .before .before .before .before .before .before .kind-at .ensures ∙ e)))) (c .before .before .push-over-last2 .ensures)
 
 pub null-or-nan-spec : {M : Type 1} → statement M
 null-or-nan-spec =
@@ -51,13 +54,13 @@ null-or-nan-spec =
     (tie.spec
     kind-at-requires
     add-after
-    over-requires
+    push-over-last-requires
     same-length
     returns
     need-requires
     enum-known-s
     enum-told
     returns-2
-    over-requires-2
+    push-over-last-requires-2
     same-length-2
     returns-3)

@@ -1,0 +1,78 @@
+-- `reader::infixes` meets its contract. The loop's invariant: what is to come from here is what was to come from the start, and a row is
+-- written. The measure is how many tokens are left.
+-- Assumes nothing.
+use borrow.Author.Tests.{not-true, not-false}
+use mathlib.Core.Bool.{true}
+use Rattle.tokens.specs.Token.{tokenCount, kindAt}
+use Rattle.operators.specs.Operator.{binds, infixOf}
+use Rattle.grammar.specs.Memory as M
+use Rattle.grammar.proofs.Answers.{after-read, after-refused, gives-read}
+use Rattle.grammar.proofs.Loops.{Moves, Turning, begins, turns, while-on, while-off}
+use Rattle.grammar.proofs.InTokens.{infix-in}
+use Rattle.grammar.proofs.Reached.{came}
+use Rattle.grammar.proofs.CursorAdvances.{infixed-advances, expression-advances}
+use Rattle.grammar.proofs.RowWritten.{infixed-writes, expression-writes}
+use borrow.Author.Needs.{needs}
+use native.Mathlib.Omega.{arith}
+use mathlib.Core.Path.{_≡_, sym, _∙_}
+use Prim.Native.Nat.{ℕ, _+_, _-_, _<_}
+use Rattle.reader.proofs.+argument+arguments+atom+expression+group+infixed+infixes+named+operand+right_side.Proof.Measures.{infixed-below, infixes-at}
+use Rattle.reader.proofs.infixed.Reads as infixed
+use Rattle.reader.proofs.infixes.Reads as infixes
+use Rattle.reader.proofs.infix_at.Reads as infix-at-reads
+use Rattle.reader.proofs.+argument+arguments+atom+expression+group+infixed+infixes+named+operand+right_side.Lts-infixes as infixes-lts
+
+-- what is known of the functions that it calls
+abbrev calls : ℕ → infixes-lts.Claims
+calls t = (infix-at-reads.Asked, infix-at-reads.Learnt, infixed-below t, infixed.Post)
+
+abbrev pub infixes-Inv-loop : infixes-lts.InvT-loop
+infixes-Inv-loop text tokens rows₀ rest min c₀ rows c = Turning (M.while (λ (at : ℕ). binds (infixOf (kindAt tokens at) .precedence) min) (M.infixed text tokens (M.expression text tokens rest))) (M.infixes text tokens (M.expression text tokens rest) min c₀ rows₀) tokens rows₀ c rows × (0 < c .rows)
+
+abbrev pub infixes-μ-loop : infixes-lts.MeasureT-loop
+infixes-μ-loop text tokens rows₀ rest min c₀ rows c = tokenCount tokens - c .at
+
+pub infixes-loop-holds : (t : ℕ) → infixes-lts.Need-loop-holds (calls t) (infixes-at t) infixes.Post infixes-Inv-loop infixes-μ-loop
+unfolding M.infixes
+infixes-loop-holds t c = (begins _ _ _ _ (c .before .before .before .pre .1 .0), c .before .before .before .pre .1 .1)
+
+pub infixes-infix-at-requires : (t : ℕ) → infixes-lts.Need-infix-at-requires (calls t) (infixes-at t) infixes.Post infixes-Inv-loop infixes-μ-loop
+infixes-infix-at-requires t c κs = search needs
+
+pub infixes-same-length : (t : ℕ) → infixes-lts.Need-same-length (calls t) (infixes-at t) infixes.Post infixes-Inv-loop infixes-μ-loop
+infixes-same-length t c = c .before .before .loop .inv .0 .size
+
+pub infixes-returns : (t : ℕ) → infixes-lts.Need-returns (calls t) (infixes-at t) infixes.Post infixes-Inv-loop infixes-μ-loop
+infixes-returns t c = gives-read (sym (c .before .before .loop .inv .0 .same) ∙ while-off _ _ _ _ _ (sym (c .before .infix-at .ensures) ∙ not-true (c .before .infix-at .result) (c .if1 .taken)))
+
+-- where the loop goes after-read, an infix operator stands
+is : (t : ℕ) (c : infixes-lts.Else1 (calls t) (infixes-at t) infixes.Post infixes-Inv-loop infixes-μ-loop) → binds (infixOf (kindAt (c .before .before .before .before .before .before .args .tokens .now) (c .before .before .loop .c .at)) .precedence) (c .before .before .before .before .before .before .args .min) ≡ true
+is t c = sym (c .before .infix-at .ensures) ∙ not-false (c .before .infix-at .result) (c .if1 .left)
+
+pub infixes-infixed-requires : (t : ℕ) → infixes-lts.Need-infixed-requires (calls t) (infixes-at t) infixes.Post infixes-Inv-loop infixes-μ-loop
+infixes-infixed-requires t c κs = (omega (arith, c .before .before .before .before .before .before .before .pre .0), (infix-in _ _ _ (is t (c .before)), c .before .before .before .loop .inv .1))
+
+pub infixes-enum-known-s : (t : ℕ) → infixes-lts.Need-enum-known-s (calls t) (infixes-at t) infixes.Post infixes-Inv-loop infixes-μ-loop
+infixes-enum-known-s t c = search needs
+
+pub infixes-enum-told : (t : ℕ) → infixes-lts.Need-enum-told (calls t) (infixes-at t) infixes.Post infixes-Inv-loop infixes-μ-loop
+infixes-enum-told t c = search needs
+
+pub infixes-same-length-2 : (t : ℕ) → infixes-lts.Need-same-length-2 (calls t) (infixes-at t) infixes.Post infixes-Inv-loop infixes-μ-loop
+infixes-same-length-2 t c = c .before .before .before .before .infixed .kept .1 .1 .0 ∙ c .before .before .before .before .before .before .before .before .loop .inv .0 .size
+
+pub infixes-returns-2 : (t : ℕ) → infixes-lts.Need-returns-2 (calls t) (infixes-at t) infixes.Post infixes-Inv-loop infixes-μ-loop
+infixes-returns-2 t c = after-refused _ (c .enum-told .given .1) (c .before .before .before .before .infixed .ensures) (sym (while-on _ _ _ _ _ (is t (c .before .before .before .before .before .before))) ∙ c .before .before .before .before .before .before .before .before .loop .inv .0 .same)
+
+-- where a turn ends
+moved : (t : ℕ) (c : infixes-lts.After-s (calls t) (infixes-at t) infixes.Post infixes-Inv-loop infixes-μ-loop) → Moves (c .before .before .before .before .before .before .before .before .before .before .before .before .args .tokens .now) (c .before .before .before .before .before .before .before .before .loop .c .at + 1) (c .s .given .0 .0)
+moved t c = came (c .s .given .1) (c .before .before .before .before .infixed .ensures) (infixed-advances _ _ _ (expression-advances _ _ _) _ _ (infix-in _ _ _ (is t (c .before .before .before .before .before .before))))
+
+pub infixes-loop-less : (t : ℕ) → infixes-lts.Need-loop-less (calls t) (infixes-at t) infixes.Post infixes-Inv-loop infixes-μ-loop
+infixes-loop-less t c = let m = moved t (c .before) in omega (arith, m .least, m .within)
+
+pub infixes-loop-again : (t : ℕ) → infixes-lts.Need-loop-again (calls t) (infixes-at t) infixes.Post infixes-Inv-loop infixes-μ-loop
+infixes-loop-again t c = (
+  turns (c .before .before .before .before .before .before .before .before .before .loop .inv .0) (c .before .before .before .before .before .infixed .kept .1 .1 .0) (moved t (c .before)) (while-on _ _ _ _ _ (is t (c .before .before .before .before .before .before .before)) ∙ after-read _ (c .before .s .given .1) (c .before .before .before .before .before .infixed .ensures)),
+  came (c .before .s .given .1) (c .before .before .before .before .before .infixed .ensures) (infixed-writes _ _ _ (expression-writes _ _ _) _ _),
+)

@@ -1,0 +1,2 @@
+-- Laws of the shortcuts: what the functions' proofs cite.
+pub mod SingleToken
