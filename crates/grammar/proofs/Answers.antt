@@ -19,7 +19,8 @@ pub gives-same : {r : Step} {t : List ℕ} {o u : Out} → o ≡ u → Gives o r
 gives-same e a = record { answer = a .answer ∙ e }
 
 -- nothing follows a step that refused: its refusal goes on as it is
-pub after-refused : {r : Step} {why : Refusal} {p : ℕ} {t : List ℕ} {o u : Out} (k : Cursor → List ℕ → Out) → r ≡ Refused why p → Gives o r t → then o k ≡ u → Gives u r t
+pub after-refused : {r : Step} {why : Refusal} {p : ℕ} {t : List ℕ} {o u : Out} (k : Cursor → List ℕ → Out) → r ≡ Refused why p → Gives o r t →
+    then o k ≡ u → Gives u r t
 unfolding then
 after-refused {r} {why} {p} {t} {o} k e a same = gives-same same (record { answer = rw (← a .answer, e) })
 

@@ -23,7 +23,8 @@ use Rattle.operators.specs.Operator.{among, binds, prefixOf}
 use Rattle.grammar.specs.Atom.{startOf}
 use Rattle.grammar.specs.declared.Start.{Start}
 use Rattle.grammar.specs.declared.Start.the-variants as start
-use Rattle.grammar.specs.Memory.{Out, done, then, past, pushRow, while, fuel, Rec, need, nullOrNan, postfix, postfixes, column, numeral, group, argument, arguments, named, atom, operand, infixed, infixes, level, expression}
+use Rattle.grammar.specs.Memory.{Out, done, then, past, pushRow, while, fuel, Rec, need, nullOrNan, postfix, postfixes, column, numeral, group}
+use Rattle.grammar.specs.Memory.{argument, arguments, named, atom, operand, infixed, infixes, level, expression}
 use Rattle.grammar.specs.declared.Cursor.{Cursor}
 use Rattle.grammar.proofs.Reached.{Holds, gone, weaker, after, either, missing-holds}
 use Rattle.grammar.proofs.Loops.{Moves}
@@ -48,7 +49,8 @@ module _ (ts : List ℕ) where
   pub need-advances : (k : ℕ) → 0 < k → (why : Refusal) (c : Cursor) (t : List ℕ) → Holds (Moves ts (c .at + 1)) (need ts k why c t)
   unfolding need
   need-advances k pos why c t =
-      either (eqb (kindAt ts (c .at)) k) (λ e. stop ts _ (le-refl _) (omega (arith, kind-is ts (c .at) k pos (eqb-true _ k e)))) (λ e. missing-holds ts _ why (c .at))
+      either (eqb (kindAt ts (c .at)) k) (λ e. stop ts _ (le-refl _) (omega (arith, kind-is ts (c .at) k pos (eqb-true _ k e))))
+      (λ e. missing-holds ts _ why (c .at))
 
   null-advances : (c : Cursor) (t : List ℕ) → Holds (Moves ts (c .at + 1)) (nullOrNan ts c t)
   unfolding nullOrNan
@@ -66,7 +68,8 @@ module _ (ts : List ℕ) where
       (λ f. less _ (omega arith) (null-advances (past 1 c) t)))
 
   -- a loop whose steps go on
-  while-advances : (more? : ℕ → Bool) (step : Cursor → List ℕ → Out) → ((c : Cursor) (t : List ℕ) → more? (c .at) ≡ true → Holds (Moves ts (c .at + 1)) (step c t)) →
+  while-advances : (more? : ℕ → Bool) (step : Cursor → List ℕ → Out) →
+      ((c : Cursor) (t : List ℕ) → more? (c .at) ≡ true → Holds (Moves ts (c .at + 1)) (step c t)) →
       (turns : ℕ) (c : Cursor) (t : List ℕ) → c .at ≤ tokenCount ts → Holds (Moves ts (c .at)) (while more? step turns c t)
   unfolding while
   while-advances more? step goes zero c t inside = stop ts _ (le-refl _) inside
@@ -114,7 +117,8 @@ module _ (text ts : List ℕ) where
     atom-advances start.Text c t lt = push-row-advances ts _ (past 1 c) t (omega arith)
     atom-advances start.Name c t lt =
         either (eqb (kindAt ts (c .at + 1)) kind.openParen)
-        (λ e. less _ (omega arith) (arguments-advances (c .at) 0 (fuel ts) (past 2 c) t (omega (arith, kind-is ts (c .at + 1) kind.openParen (omega arith) (eqb-true _ _ e)))))
+        (λ e. let inside = kind-is ts (c .at + 1) kind.openParen (omega arith) (eqb-true _ _ e) in
+        less _ (omega arith) (arguments-advances (c .at) 0 (fuel ts) (past 2 c) t (omega (arith, inside))))
         (λ e. column-advances ts c t lt)
     atom-advances start.Paren c t lt =
         after (goes 0 (past 1 c) t (omega arith)) (λ d u m. less _ (omega (arith, m .least)) (need-advances ts kind.closeParen (omega arith) NeedClose d u))

@@ -20,7 +20,7 @@ use Rattle.refusals.specs.declared.Refusal.the-variants.{End, NeedClose, NeedCo
 use Rattle.rows.specs.Label.{Label, leafRow, rowOverOne, rowOverTwo}
 use Rattle.rows.specs.Layout.{width}
 use Rattle.rows.proofs.Laws.{follows}
-use Rattle.operators.specs.Operator.{binds, rightOf, prefixOf}
+use Rattle.operators.specs.Operator.{binds, rightMinimum, prefixOf}
 use Rattle.grammar.specs.Atom.{startOf}
 use Rattle.grammar.specs.declared.Start.{Start}
 use Rattle.grammar.specs.declared.Start.the-variants as start
@@ -179,7 +179,7 @@ module _ (text ts : List ℕ) (cap : ℕ) where
     unfolding M.infixed T.infixed
     infixed-laid t n room at x le =
         let k = kindAt ts at in
-        after cap _ _ (reads (rightOf k) (cursor (at + 1) (n + size x)) _ (room-stays cap t (n * width) (rowsOf n x) room))
+        after cap _ _ (reads (rightMinimum k) (cursor (at + 1) (n + size x)) _ (room-stays cap t (n * width) (rowsOf n x) room))
         (binary-laid _ x t n room)
 
     infixes-laid : (m : ℕ) (t : List ℕ) (n : ℕ) → Room cap t →

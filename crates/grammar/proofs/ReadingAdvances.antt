@@ -25,7 +25,7 @@ use Rattle.rows.specs.Label.{Label}
 use Rattle.syntax.specs.Tree.{Tree, leaf, unary, Trees, none, more, size, sizes}
 use Rattle.syntax.specs.Read.{nullary, arityOf}
 use Rattle.syntax.proofs.RowsReadBack.{FitsLeaf, FitsOverOne, WellFormed, AllWellFormed}
-use Rattle.operators.specs.Operator.{among, binds, infixOf, rightOf, prefixOf}
+use Rattle.operators.specs.Operator.{among, binds, infixOf, rightMinimum, prefixOf}
 use Rattle.grammar.specs.Atom.{startOf}
 use Rattle.grammar.specs.declared.Start.{Start}
 use Rattle.grammar.specs.declared.Start.the-variants as start
@@ -274,7 +274,7 @@ module _ (text ts : List ℕ) (cap : ℕ) where
     infixed-goes m at used x e =
         let k = kindAt ts at in
         let inside : at + 1 ≤ tokenCount ts = omega (arith, infix-in ts at m e) in
-        after _ (goes (rightOf k) (at + 1) used) (refused-earlier ts cap 1 inside)
+        after _ (goes (rightMinimum k) (at + 1) used) (refused-earlier ts cap 1 inside)
         (λ at₁ used₁ y o. due-goes (having at used x) at₁ used₁ _ (omega (arith, o .rows)) (omega arith)
         (omega (arith, o .tokens)) (omega (arith, o .inside)) (λ w. ((infix-row-over-two k m e, refl), (w, o .formed tt))))
 

@@ -18,7 +18,8 @@ use Rattle.operators.specs.Operator.{binds, prefixOf}
 use Rattle.grammar.specs.Atom.{startOf}
 use Rattle.grammar.specs.declared.Start.{Start}
 use Rattle.grammar.specs.declared.Start.the-variants as start
-use Rattle.grammar.specs.Memory.{Out, past, pushRow, while, fuel, Rec, need, nullOrNan, postfix, postfixes, column, numeral, group, arguments, named, atom, operand, infixed, infixes, level, expression}
+use Rattle.grammar.specs.Memory.{Out, past, pushRow, while, fuel, Rec, need, nullOrNan, postfix, postfixes, column, numeral, group, arguments}
+use Rattle.grammar.specs.Memory.{named, atom, operand, infixed, infixes, level, expression}
 use Rattle.grammar.specs.declared.Cursor.{Cursor}
 use Rattle.grammar.proofs.Reached.{Holds, gone, after, either, anything, missing-holds}
 
@@ -38,13 +39,15 @@ module _ (ts : List ℕ) where
   pub null-writes : (c : Cursor) (t : List ℕ) → Some c → Holds Some (nullOrNan ts c t)
   unfolding nullOrNan
   null-writes c t some =
-      either (eqb (kindAt ts (c .at)) kind.NULL) (λ e. push-row-writes _ _ t) (λ e. after (need-writes kind.NAN NeedNullOrNan c t some) (λ d u h. push-row-writes _ d u))
+      either (eqb (kindAt ts (c .at)) kind.NULL) (λ e. push-row-writes _ _ t)
+      (λ e. after (need-writes kind.NAN NeedNullOrNan c t some) (λ d u h. push-row-writes _ d u))
 
   pub postfix-writes : (c : Cursor) (t : List ℕ) → Some c → Holds Some (postfix ts c t)
   unfolding postfix
   postfix-writes c t some =
       either (eqb (kindAt ts (c .at)) kind.exclamation) (λ e. push-row-writes _ _ t)
-      (λ e. either (eqb (kindAt ts (c .at + 1)) kind.NOT) (λ f. after (null-writes (past 2 c) t some) (λ d u h. push-row-writes _ d u)) (λ f. null-writes (past 1 c) t some))
+      (λ e. either (eqb (kindAt ts (c .at + 1)) kind.NOT) (λ f. after (null-writes (past 2 c) t some) (λ d u h. push-row-writes _ d u))
+      (λ f. null-writes (past 1 c) t some))
 
   while-writes : (more? : ℕ → Bool) (step : Cursor → List ℕ → Out) → ((c : Cursor) (t : List ℕ) → Some c → Holds Some (step c t)) →
       (turns : ℕ) (c : Cursor) (t : List ℕ) → Some c → Holds Some (while more? step turns c t)

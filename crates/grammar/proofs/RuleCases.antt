@@ -18,7 +18,8 @@ use Rattle.syntax.specs.Kind as row
 use Rattle.operators.specs.Operator.{binds, prefixOf}
 use Rattle.grammar.specs.Atom.{startOf}
 use Rattle.grammar.specs.declared.Start.{Start}
-use Rattle.grammar.specs.Memory.{Out, done, refuse, then, past, pushRow, pushLeaf, pushOverLast, fuel, Rec, missing, need, nullOrNan, postfix, column, argument, arguments, named, atom, operand, level, expression, finish}
+use Rattle.grammar.specs.Memory.{Out, done, refuse, then, past, pushRow, pushLeaf, pushOverLast, fuel, Rec, missing, need, nullOrNan, postfix}
+use Rattle.grammar.specs.Memory.{column, argument, arguments, named, atom, operand, level, expression, finish}
 use Rattle.grammar.specs.declared.Cursor.{Cursor}
 use Rattle.grammar.proofs.Loops.{one-less}
 
@@ -65,7 +66,8 @@ module _ (ts : List ℕ) (c : Cursor) (t : List ℕ) where
   unfolding postfix
   postfix-is n m = rw (ne-eqb _ kind.exclamation n, ne-eqb _ kind.NOT m, postfix)
 
-  pub postfix-is-not : (kindAt ts (c .at) ≡ kind.exclamation → ⊥) → kindAt ts (c .at + 1) ≡ kind.NOT → postfix ts c t ≡ then (nullOrNan ts (past 2 c) t) (pushOverLast (label row.negation 0 0))
+  pub postfix-is-not : (kindAt ts (c .at) ≡ kind.exclamation → ⊥) → kindAt ts (c .at + 1) ≡ kind.NOT →
+      postfix ts c t ≡ then (nullOrNan ts (past 2 c) t) (pushOverLast (label row.negation 0 0))
   unfolding postfix
   postfix-is-not n e = rw (ne-eqb _ kind.exclamation n, eq-eqb _ kind.NOT e, postfix)
 
@@ -74,7 +76,8 @@ module _ (ts : List ℕ) (c : Cursor) (t : List ℕ) where
   unfolding column
   column-plain n = rw (ne-eqb _ kind.period n, column)
 
-  pub column-dot : kindAt ts (c .at + 1) ≡ kind.period → column ts c t ≡ then (need ts kind.ident NeedName (past 2 c) t) (pushRow (leafRow (label row.qualified (c .at) (c .at + 2))))
+  pub column-dot : kindAt ts (c .at + 1) ≡ kind.period →
+      column ts c t ≡ then (need ts kind.ident NeedName (past 2 c) t) (pushRow (leafRow (label row.qualified (c .at) (c .at + 2))))
   unfolding column
   column-dot e = rw (eq-eqb _ kind.period e, column)
 
@@ -97,11 +100,13 @@ module _ (text ts : List ℕ) (rec : Rec) (c : Cursor) (t : List ℕ) where
   unfolding argument
   argument-next n e = rw (ne-eqb n 0 e, argument)
 
-  pub arguments-end : (f n left : ℕ) → kindAt ts (c .at) ≡ kind.closeParen → arguments text ts rec f n (suc left) c t ≡ pushRow (rowOverMany (label row.function f 0) n) (past 1 c) t
+  pub arguments-end : (f n left : ℕ) → kindAt ts (c .at) ≡ kind.closeParen →
+      arguments text ts rec f n (suc left) c t ≡ pushRow (rowOverMany (label row.function f 0) n) (past 1 c) t
   unfolding arguments
   arguments-end f n left e = rw (eq-eqb _ kind.closeParen e, arguments)
 
-  pub arguments-on : (f n left : ℕ) → (kindAt ts (c .at) ≡ kind.closeParen → ⊥) → arguments text ts rec f n (suc left) c t ≡ then (argument text ts rec n c t) (arguments text ts rec f (n + 1) left)
+  pub arguments-on : (f n left : ℕ) → (kindAt ts (c .at) ≡ kind.closeParen → ⊥) →
+      arguments text ts rec f n (suc left) c t ≡ then (argument text ts rec n c t) (arguments text ts rec f (n + 1) left)
   unfolding arguments
   arguments-on f n left e = rw (ne-eqb _ kind.closeParen e, arguments)
 
@@ -114,11 +119,13 @@ module _ (text ts : List ℕ) (rec : Rec) (c : Cursor) (t : List ℕ) where
   named-column n = rw (ne-eqb _ kind.openParen n, named)
 
   pub prefix-on : (m : ℕ) → binds (prefixOf (kindAt ts (c .at)) .precedence) m ≡ true →
-      operand text ts rec m c t ≡ then (rec (prefixOf (kindAt ts (c .at)) .precedence) (past 1 c) t) (pushOverLast (label (prefixOf (kindAt ts (c .at)) .row) 0 0))
+      operand text ts rec m c t
+      ≡ then (rec (prefixOf (kindAt ts (c .at)) .precedence) (past 1 c) t) (pushOverLast (label (prefixOf (kindAt ts (c .at)) .row) 0 0))
   unfolding operand
   prefix-on m e = rw (e, operand)
 
-  pub prefix-off : (m : ℕ) → binds (prefixOf (kindAt ts (c .at)) .precedence) m ≡ false → operand text ts rec m c t ≡ atom text ts rec (startOf (kindAt ts (c .at))) c t
+  pub prefix-off : (m : ℕ) → binds (prefixOf (kindAt ts (c .at)) .precedence) m ≡ false →
+      operand text ts rec m c t ≡ atom text ts rec (startOf (kindAt ts (c .at))) c t
   unfolding operand
   prefix-off m e = rw (e, operand)
 

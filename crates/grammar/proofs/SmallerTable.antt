@@ -21,7 +21,7 @@ use Rattle.numbers.specs.declared.Number.{Number}
 use Rattle.numbers.specs.declared.Number.the-variants.{Integer, Float, Neither}
 use Rattle.refusals.specs.declared.Refusal.{Refusal}
 use Rattle.refusals.specs.declared.Refusal.the-variants.{NoRoom, NeedClose, NeedComma, NeedName, NeedNullOrNan}
-use Rattle.operators.specs.Operator.{binds, rightOf, prefixOf}
+use Rattle.operators.specs.Operator.{binds, rightMinimum, prefixOf}
 use Rattle.grammar.specs.Atom.{startOf}
 use Rattle.grammar.specs.declared.Start.{Start}
 use Rattle.grammar.specs.declared.Start.the-variants as start
@@ -196,7 +196,7 @@ module _ (text ts : List ℕ) (cap big : ℕ) (larger : cap ≤ big) where
 
     infixed-limited : (at used : ℕ) (x : Tree) → used ≤ cap → Limited cap (T.infixed text ts cap rec at used x) (T.infixed text ts big read at used x)
     unfolding T.infixed
-    infixed-limited at used x le = due-after _ (limited (rightOf (kindAt ts at)) (at + 1) used le)
+    infixed-limited at used x le = due-after _ (limited (rightMinimum (kindAt ts at)) (at + 1) used le)
 
     infixes-limited : (m at used : ℕ) (x : Tree) → used ≤ cap → Limited cap (T.infixes text ts cap rec m at used x) (T.infixes text ts big read m at used x)
     unfolding T.infixes

@@ -17,7 +17,7 @@ use Rattle.rows.specs.Layout.{width, numbers, capacity}
 use Rattle.rows.specs.Label.{Label, label, leafRow, rowOverOne, rowOverTwo, rowOverMany}
 use Rattle.rows.specs.declared.Row.{Row}
 use Rattle.syntax.specs.Kind as row
-use Rattle.operators.specs.Operator.{infixOf, rightOf, prefixOf, postfixOf, binds}
+use Rattle.operators.specs.Operator.{infixOf, rightMinimum, prefixOf, postfixOf, binds}
 use Rattle.grammar.specs.Atom.{startOf}
 use Rattle.grammar.specs.declared.Start.{Start}
 use Rattle.grammar.specs.declared.Start.the-variants as start
@@ -180,7 +180,7 @@ module _ (text ts : List ℕ) where
     unfoldable pub infixed : Cursor → List ℕ → Out
     infixed c t =
         let k = kindAt ts (c .at) in
-        then (rec (rightOf k) (past 1 c) t) λ d u. pushRow (rowOverTwo (label (infixOf k .row) 0 0) (c .rows - 1) (d .rows - 1)) d u
+        then (rec (rightMinimum k) (past 1 c) t) λ d u. pushRow (rowOverTwo (label (infixOf k .row) 0 0) (c .rows - 1) (d .rows - 1)) d u
 
     -- infix operators of at least m with their right sides, while there are any
     unfoldable pub infixes : ℕ → Cursor → List ℕ → Out
@@ -189,9 +189,9 @@ module _ (text ts : List ℕ) where
     -- reading at a minimum m
     unfoldable pub level : Rec
     level m c t =
-        then (operand m c t) λ c t. -- (a)
-        then (postfixes ts m c t) λ c t. -- (b)
-        then (infixes m c t) (postfixes ts m) -- (c) and (d)
+        then (operand m c t) λ c t.  -- (a)
+        then (postfixes ts m c t) λ c t.  -- (b)
+        then (infixes m c t) (postfixes ts m)  -- (c) and (d)
 
   -- an expression at a minimum, with so many levels left
   unfoldable pub expression : ℕ → Rec

@@ -13,7 +13,7 @@ use Rattle.refusals.specs.declared.Refusal.{Refusal}
 use Rattle.refusals.specs.declared.Refusal.the-variants.{End, NoAtom, LeftOver, BadNumber, TooDeep, NoRoom, NeedClose, NeedComma, NeedName, NeedNullOrNan}
 use Rattle.rows.specs.Label.{label}
 use Rattle.syntax.specs.Kind as row
-use Rattle.operators.specs.Operator.{infixOf, rightOf, prefixOf, postfixOf, binds}
+use Rattle.operators.specs.Operator.{infixOf, rightMinimum, prefixOf, postfixOf, binds}
 use Rattle.grammar.specs.Atom.{startOf}
 use Rattle.grammar.specs.declared.Start.{Start}
 use Rattle.grammar.specs.declared.Start.the-variants as start
@@ -156,7 +156,7 @@ module _ (text ts : List ℕ) (cap : ℕ) where
     unfoldable pub infixed : ℕ → ℕ → Tree → Reading
     infixed at used x = do
       let k = kindAt ts at
-      (at, used, y) ← rec (rightOf k) (at + 1) used
+      (at, used, y) ← rec (rightMinimum k) (at + 1) used
       due at used (binary (label (infixOf k .row) 0 0) x y)
 
     -- infix operators of at least m with their right sides, while there are any

@@ -11,7 +11,7 @@ use lib.Dec.{leb, ltb, eqb}
 use lib.ListN.{length, getD, drop, length-drop, drop-of-length-le}
 use lib.Seq.{drop-cons}
 use Rattle.numbers.specs.Number.{integerMax, digit, begins, ended, pastDigits, digits, pastFraction, pastSign, exponent, valueFrom, integerOf, numberOf}
-use Rattle.numbers.specs.Run.{held, leading, Past, Digits, Whole}
+use Rattle.numbers.specs.Run.{held, leading, Past, Digits, DigitsOnly}
 use Rattle.numbers.specs.declared.Run.{Run}
 use Rattle.numbers.specs.declared.Number.{Number}
 use Rattle.numbers.specs.declared.Number.the-variants.{Float, Neither}
@@ -89,7 +89,8 @@ run-ends {s} {from} {end} {value} past none r =
     record {
       end = record { least = r .least; within = r .within; left = sym past ∙ r .left };
       value =
-          let same : min value held ≡ min (valueFrom 0 (leading (drop from s))) held = sym (ap (λ (l : List ℕ). min (valueFrom value l) held) none) ∙ r .total in
+          let same : min value held ≡ min (valueFrom 0 (leading (drop from s))) held =
+          sym (ap (λ (l : List ℕ). min (valueFrom value l) held) none) ∙ r .total in
           omega (arith, same, r .small);
     }
 
@@ -159,8 +160,8 @@ module _ (s : List ℕ) (from : ℕ) (r : Run) (run : Digits s from r) where
       ∙ le-ltb (length (pastDigits (drop from s))) (length (drop from s)) (omega (arith, there, length-drop from s, run .end .least))
 
   -- and so is every other
-  pub run-whole : r .end ≡ length s → ended (pastDigits (drop from s)) ≡ true
-  run-whole e = ended-length (pastDigits (drop from s)) ∙ eq-eqb (length (pastDigits (drop from s))) 0 (omega (arith, there))
+  pub run-to-the-end : r .end ≡ length s → ended (pastDigits (drop from s)) ≡ true
+  run-to-the-end e = ended-length (pastDigits (drop from s)) ∙ eq-eqb (length (pastDigits (drop from s))) 0 (omega (arith, there))
 
   pub run-part : (r .end ≡ length s → ⊥) → ended (pastDigits (drop from s)) ≡ false
   run-part ne =
@@ -171,7 +172,7 @@ module _ (s : List ℕ) (from : ℕ) (r : Run) (run : Digits s from r) where
   run-ended = by (eqb (r .end) (length s)) refl
     where
       by : (b : Bool) → eqb (r .end) (length s) ≡ b → ended (pastDigits (drop from s)) ≡ b
-      by true e = run-whole (eqb-true (r .end) (length s) e)
+      by true e = run-to-the-end (eqb-true (r .end) (length s) e)
       by false e = run-part (eqb-false (r .end) (length s) e)
 
 -- the byte at a place, and what follows it
@@ -253,9 +254,9 @@ module _ (s : List ℕ) where
   unfolding numberOf
   number-none e = rw (digits-none e, e, numberOf)
 
-  pub number-whole : begins s ≡ true → ended (pastDigits s) ≡ true → numberOf s ≡ integerOf (valueFrom 0 s)
+  pub number-of-digits : begins s ≡ true → ended (pastDigits s) ≡ true → numberOf s ≡ integerOf (valueFrom 0 s)
   unfolding numberOf
-  number-whole e f = rw (digits-both e true f, numberOf)
+  number-of-digits e f = rw (digits-both e true f, numberOf)
 
   pub number-float : begins s ≡ true → ended (pastDigits s) ≡ false → exponent (pastFraction (pastDigits s)) ≡ true → numberOf s ≡ Float
   unfolding numberOf
@@ -286,8 +287,8 @@ module _ (s : List ℕ) (r : Run) (run : Digits s 0 r) where
   run-integer some all =
       ap integerOf (run .value)
       ∙ integer-held (valueFrom 0 (leading s))
-      ∙ ap (λ (l : List ℕ). integerOf (valueFrom 0 l)) (leading-all s (run-whole s 0 r run all))
-      ∙ sym (number-whole s (run-some s 0 r run (omega arith)) (run-whole s 0 r run all))
+      ∙ ap (λ (l : List ℕ). integerOf (valueFrom 0 l)) (leading-all s (run-to-the-end s 0 r run all))
+      ∙ sym (number-of-digits s (run-some s 0 r run (omega arith)) (run-to-the-end s 0 r run all))
 
   module _ (at : ℕ) (some : r .end ≡ 0 → ⊥) (more : r .end ≡ length s → ⊥) (past : Past pastFraction s (r .end) at) where
     rest : (b : Bool) → exponent (drop at s) ≡ b → exponent (pastFraction (pastDigits s)) ≡ b
@@ -299,14 +300,14 @@ module _ (s : List ℕ) (r : Run) (run : Digits s 0 r) where
     pub run-bad : exponent (drop at s) ≡ false → Neither ≡ numberOf s
     run-bad e = sym (number-bad s (run-some s 0 r run (omega arith)) (run-part s 0 r run more) (rest false e))
 
--- the cases of `Whole`
-pub whole-unsaid : (s : List ℕ) → Whole s Neither
-whole-unsaid s =
+-- the cases of `DigitsOnly`
+pub digits-only-unsaid : (s : List ℕ) → DigitsOnly s Neither
+digits-only-unsaid s =
     record {
       integer = λ n e.
           let no-way : _≡_ {A = ℕ} 0 1 = cc in
           absurd (omega arith);
     }
 
-pub whole-said : (s : List ℕ) (r : Number) → r ≡ numberOf s → Whole s r
-whole-said s r is = record { integer = λ n e. sym is ∙ e }
+pub digits-only-said : (s : List ℕ) (r : Number) → r ≡ numberOf s → DigitsOnly s r
+digits-only-said s r is = record { integer = λ n e. sym is ∙ e }

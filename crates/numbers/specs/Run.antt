@@ -30,5 +30,5 @@ pub record Digits (s : List ℕ) (from : ℕ) (r : Run) : Type 0 where
   pub value : r .value ≡ min (valueFrom 0 (leading (drop from s))) held
 
 -- r is an Integer only where the spelling is that Integer
-pub record Whole (s : List ℕ) (r : Number) : Type 0 where
+pub record DigitsOnly (s : List ℕ) (r : Number) : Type 0 where
   pub integer : (n : ℕ) → r ≡ Integer n → numberOf s ≡ Integer n

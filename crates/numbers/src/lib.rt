@@ -4,7 +4,7 @@ ghost use mathlib.Core.Path.{_≡_};
 ghost use Prim.Native.Nat.{_+_, _-_, _*_, _≤_, min};
 ghost use lib.ListN.{length, drop};
 ghost use Rattle.numbers.specs.Number.{digit as digitOf, digits as digitsOf, pastFraction, pastSign, exponent, integerOf, numberOf};
-ghost use Rattle.numbers.specs.Run.{held, Digits, Past, Whole};
+ghost use Rattle.numbers.specs.Run.{held, Digits, Past, DigitsOnly};
 
 // The largest Integer, 2^63 - 1.
 const INTEGER_MAX: u64 = 9223372036854775807;
@@ -22,13 +22,14 @@ pub struct Run {
     pub value: u64,
 }
 
+// Tells if a byte is a digit.
 fn digit(b: u8) -> bool
     ensures { λ r. ⌜ r ≡ digitOf b ⌝ }
 {
     if 48 <= b { b <= 57 } else { false }
 }
 
-// One more digit after those that spelled `value`.
+// Answers the value with one more digit after those that spelled `value`.
 fn grown(value: u64, b: u8) -> u64
     requires { ⌜ (48 ≤ b) × (b ≤ 57) ⌝ }
     ensures { λ r. ⌜ r ≡ min (value * 10 + (b - 48)) held ⌝ }
@@ -48,7 +49,7 @@ fn grown(value: u64, b: u8) -> u64
     }
 }
 
-// The digits from `from` on, perhaps none.
+// Reads the digits from `from` on, perhaps none.
 fn digits(s: &[u8], from: usize) -> Run
     requires { ⌜ from ≤ length (now s) ⌝ }
     ensures { λ r. ⌜ Digits (now (s .entry)) from r ⌝ }
@@ -66,7 +67,7 @@ fn digits(s: &[u8], from: usize) -> Run
     Run { end, value }
 }
 
-// Past an optional `.` with any digits.
+// Goes past an optional `.` with any digits.
 fn fraction(s: &[u8], at: usize) -> usize
     requires { ⌜ at ≤ length (now s) ⌝ }
     ensures { λ r. ⌜ Past pastFraction (now (s .entry)) at r ⌝ }
@@ -85,7 +86,7 @@ fn fraction(s: &[u8], at: usize) -> usize
     }
 }
 
-// Past an optional sign.
+// Goes past an optional sign.
 fn sign(s: &[u8], at: usize) -> usize
     requires { ⌜ at ≤ length (now s) ⌝ }
     ensures { λ r. ⌜ Past pastSign (now (s .entry)) at r ⌝ }
@@ -104,7 +105,7 @@ fn sign(s: &[u8], at: usize) -> usize
     }
 }
 
-// Is the rest an optional sign and digits?
+// Tells if the rest is an optional sign and digits.
 fn power(s: &[u8], at: usize) -> bool
     requires { ⌜ at ≤ length (now s) ⌝ }
     ensures { λ r. ⌜ r ≡ digitsOf (pastSign (drop at (now (s .entry)))) ⌝ }
@@ -115,7 +116,7 @@ fn power(s: &[u8], at: usize) -> bool
     if from < end { end == s.len() } else { false }
 }
 
-// Is the rest nothing, or an exponent?
+// Tells if the rest is nothing, or an exponent.
 fn exponent_at(s: &[u8], at: usize) -> bool
     requires { ⌜ at ≤ length (now s) ⌝ }
     ensures { λ r. ⌜ r ≡ exponent (drop at (now (s .entry))) ⌝ }
@@ -135,7 +136,7 @@ fn exponent_at(s: &[u8], at: usize) -> bool
     }
 }
 
-// All digits: an Integer, if the value was not held.
+// Answers what digits only are: an Integer, if the value was not held.
 fn integer(value: u64) -> Number
     ensures { λ r. ⌜ r ≡ integerOf value ⌝ }
 {
@@ -146,13 +147,13 @@ fn integer(value: u64) -> Number
     }
 }
 
-// What a spelling is: an Integer with its value, a Float, or neither.
+// Answers what a spelling is: an Integer with its value, a Float, or neither.
 pub fn number_of(s: &[u8]) -> Number
     ensures { λ r. ⌜ r ≡ numberOf (now (s .entry)) ⌝ }
 {
-    let whole = digits(s, 0);
-    let end = whole.end;
-    let value = whole.value;
+    let run = digits(s, 0);
+    let end = run.end;
+    let value = run.value;
     if end == 0 {
         return Number::Neither;
     }
@@ -167,9 +168,9 @@ pub fn number_of(s: &[u8]) -> Number
     }
 }
 
-// An Integer with its value, where the spelling is one; `Neither` says nothing.
-pub fn whole_of(s: &[u8]) -> Number
-    ensures { λ r. ⌜ Whole (now (s .entry)) r ⌝ }
+// Answers an Integer with its value, where the spelling is digits only and one of those; `Neither` says nothing.
+pub fn digits_only(s: &[u8]) -> Number
+    ensures { λ r. ⌜ DigitsOnly (now (s .entry)) r ⌝ }
 {
     let run = digits(s, 0);
     let end = run.end;

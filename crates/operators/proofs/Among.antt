@@ -1,5 +1,5 @@
--- What a table gives for a kind that it does not have (`not-among`) or that lies outside its kinds (`among-outside`), a bound of what it gives
--- (`among-most`), and a test that all it gives passes (`among-every`).
+-- What a table gives for a kind that it does not have (`not-among`), a bound of what it gives (`among-most`), and a test that all it gives
+-- passes (`among-every`).
 -- Assumes nothing.
 use mathlib.Core.Path.{_≡_, refl}
 use mathlib.Core.Bool.{Bool, true, false, _&&_}
@@ -28,20 +28,6 @@ not-among k d l off = passed (Unit {0}) k d l off .1
 pub both : (a b : Bool) → (a && b) ≡ true → (a ≡ true) × (b ≡ true)
 both true b e = (refl, e)
 both false b e = absurd (let z : _≡_ {A = ℕ} 0 1 = cc in omega arith)
-
--- every kind of a list of pairs lies from lo to hi
-unfoldable pub within : {A : Type 0} → ℕ → ℕ → List (ℕ × A) → Bool
-within lo hi [] = true
-within lo hi (p ∷ ps) = (leb lo (p .0) && leb (p .0) hi) && within lo hi ps
-
-pub among-outside : {A : Type 0} (lo hi k : ℕ) (d : A) (l : List (ℕ × A)) → within lo hi l ≡ true → ((lo ≤ k) × (k ≤ hi) → ⊥) → among k d l ≡ d
-unfolding among within
-among-outside lo hi k d [] all out = refl
-among-outside lo hi k d (p ∷ ps) all out =
-    let here = both (leb lo (p .0) && leb (p .0) hi) (within lo hi ps) all in
-    let ends = both (leb lo (p .0)) (leb (p .0) hi) (here .0) in
-    let other : k ≡ p .0 → ⊥ = λ e. out (rw e (leb-true lo (p .0) (ends .0), leb-true (p .0) hi (ends .1))) in
-    rw (ne-eqb k (p .0) other, among) (among-outside lo hi k d ps (here .1) out)
 
 -- every value of a list of pairs is at most m, by f
 unfoldable pub most : {A : Type 0} → (A → ℕ) → ℕ → List (ℕ × A) → Bool

@@ -47,8 +47,8 @@ unfoldable pub infixOf : ℕ → Operator
 infixOf k = among k no infixTable
 
 -- the minimum for what stands to the right of an infix operator: one more than its precedence, but for `^` its own
-unfoldable pub rightOf : ℕ → ℕ
-rightOf k = elim (eqb k kind.caret) [ true ↦ infixOf k .precedence | false ↦ infixOf k .precedence + 1 ]
+unfoldable pub rightMinimum : ℕ → ℕ
+rightMinimum k = elim (eqb k kind.caret) [ true ↦ infixOf k .precedence | false ↦ infixOf k .precedence + 1 ]
 
 -- a prefix operator, whose operand is read at its own precedence
 abbrev pub prefixTable : List (ℕ × Operator)

@@ -4,7 +4,7 @@
 use syntax::kind as row;
 use tokens::kind;
 ghost use mathlib.Core.Path.{_≡_};
-ghost use Rattle.operators.specs.Operator.{infixOf, rightOf, prefixOf, postfixOf, binds as bindsOf};
+ghost use Rattle.operators.specs.Operator.{infixOf, rightMinimum, prefixOf, postfixOf, binds as bindsOf};
 
 // Answers the precedence of an infix operator, and 0 for any other kind. The compiler makes shorter code of these tests than of a `match`.
 pub fn infix_precedence(k: u32) -> u32
@@ -49,7 +49,7 @@ pub fn infix_precedence(k: u32) -> u32
 
 // Answers the minimum for what stands to the right of an infix operator: one more than its precedence, but for `^` its own.
 pub fn right_minimum(k: u32) -> u32
-    ensures { λ r. ⌜ r ≡ rightOf k ⌝ }
+    ensures { λ r. ⌜ r ≡ rightMinimum k ⌝ }
 {
     let precedence = infix_precedence(k);
     if k == kind::CARET {

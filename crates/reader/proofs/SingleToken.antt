@@ -68,7 +68,8 @@ module _ (ts text : List ℕ) (c : Cursor) (t : List ℕ) where
   unfolding singleToken
   single-string is = rw (ne-eqb (kindAt ts (c .at)) kind.number (λ e. omega (arith, is, e)), singleToken, eq-eqb _ kind.string is)
 
-  pub single-name : (kindAt ts (c .at) ≡ kind.number → ⊥) → (kindAt ts (c .at) ≡ kind.string → ⊥) → singleToken ts text c t ≡ pushLeaf (label row.column (c .at) 0) c t
+  pub single-name : (kindAt ts (c .at) ≡ kind.number → ⊥) → (kindAt ts (c .at) ≡ kind.string → ⊥) →
+      singleToken ts text c t ≡ pushLeaf (label row.column (c .at) 0) c t
   unfolding singleToken
   single-name number string = rw (ne-eqb _ kind.number number, singleToken, ne-eqb _ kind.string string)
 
@@ -83,7 +84,9 @@ module _ (text ts : List ℕ) (levels m : ℕ) (c : Cursor) (t : List ℕ) (alon
   abbrev next : ℕ
   next = kindAt ts (c .at + 1)
 
-  none : ((eqb next kind.openParen ≡ false) × (eqb next kind.period ≡ false)) × ((binds (infixOf next .precedence) m ≡ false) × (binds (postfixOf next) m ≡ false))
+  none :
+      ((eqb next kind.openParen ≡ false) × (eqb next kind.period ≡ false))
+      × ((binds (infixOf next .precedence) m ≡ false) × (binds (postfixOf next) m ≡ false))
   unfolding mayFollowOperand
   none =
       let parts = neither (eqb next kind.openParen || eqb next kind.period) (binds (infixOf next .precedence) m || binds (postfixOf next) m) alone in
@@ -96,8 +99,10 @@ module _ (text ts : List ℕ) (levels m : ℕ) (c : Cursor) (t : List ℕ) (alon
   nothing-follows : (d : Cursor) (u : List ℕ) → d .at ≡ c .at + 1 → rest d u ≡ done d u
   unfolding postfixes infixes then
   nothing-follows d u at =
-      let off = while-off (λ at. binds (postfixOf (kindAt ts at)) m) (postfix ts) (tokenCount ts) d u (rw at (none .1 .1)) in
-      rw (off, while-off (λ at. binds (infixOf (kindAt ts at) .precedence) m) (infixed text ts (expression text ts levels)) (tokenCount ts) d u (rw at (none .1 .0))) off
+      let no-postfix = while-off (λ at. binds (postfixOf (kindAt ts at)) m) (postfix ts) (tokenCount ts) d u (rw at (none .1 .1)) in
+      let is-infix : ℕ → Bool = λ at. binds (infixOf (kindAt ts at) .precedence) m in
+      let no-infix = while-off is-infix (infixed text ts (expression text ts levels)) (tokenCount ts) d u (rw at (none .1 .0)) in
+      rw (no-postfix, no-infix) no-postfix
 
   leaf-alone : (l : Label) → then (pushLeaf l c t) rest ≡ pushLeaf l c t
   unfolding then
@@ -134,7 +139,9 @@ module _ (text ts : List ℕ) (levels m : ℕ) (c : Cursor) (t : List ℕ) (alon
   unfolding prefixOf among binds startOf atom
   by-name is =
       by-atom (pushLeaf (label row.column (c .at) 0) c t) (rw is refl)
-      (atom-by text ts _ c t {b = start.Name} (ap startOf is) ∙ named-column text ts _ c t (eqb-false _ _ (none .0 .0)) ∙ column-plain ts c t (eqb-false _ _ (none .0 .1)))
+      (atom-by text ts _ c t {b = start.Name} (ap startOf is)
+      ∙ named-column text ts _ c t (eqb-false _ _ (none .0 .0))
+      ∙ column-plain ts c t (eqb-false _ _ (none .0 .1)))
       (leaf-alone _)
       ∙ sym (single-name ts text c t (λ e. omega (arith, is, e)) (λ e. omega (arith, is, e)))
 

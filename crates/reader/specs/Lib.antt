@@ -1,2 +1,3 @@
--- What the shortcuts of `reader` ask, as definitions. No entry's promise names them.
+-- What the contracts of `reader` say beside the rules of `grammar`. No entry's promise names these files.
+pub mod Level
 pub mod Shortcut

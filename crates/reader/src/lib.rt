@@ -5,7 +5,11 @@
 // at its own precedence, 8, so that `3 ^ 2` is its right side; `-`, of precedence 6, is not at least 8 and ends it. Back at minimum 0 `-` is taken,
 // with a right side at 7: `4 * 3`, since `*` has 7. Each tree's row is written once its operands stand before it, so the rows come out in post-order:
 // 2, 3, 2, ^, ^, 4, 3, *, -.
+//
+// The module `shortcut` has what makes filters fast and changes no answer. A call that stays a call in the compiled code is lent `&*text` and
+// `&*tokens`: so the compiler keeps a slice's two halves apart, and reads wait less.
 mod shortcut;
+
 use crate::shortcut::again;
 use crate::shortcut::any_postfixes;
 use crate::shortcut::single_token;
@@ -31,9 +35,9 @@ ghost use mathlib.Core.Path.{_≡_};
 ghost use Prim.Native.Nat.{_≤_, _<_};
 ghost use Rattle.tokens.specs.Token.{tokenCount, kindAt};
 ghost use Rattle.operators.specs.Operator.{infixOf, binds};
-ghost use Rattle.grammar.specs.Atom.{startOf};
-ghost use Rattle.grammar.specs.Memory.{Gives, expression as expressionOf, operand as operandOf, atom as atomOf, group as groupOf, named as namedOf};
-ghost use Rattle.grammar.specs.Memory.{arguments as argumentsOf, argument as argumentOf, infixes as infixesOf, infixed as infixedOf, fuel};
+ghost use Rattle.grammar.specs.Memory.{Gives, expression as expressionOf};
+ghost use Rattle.reader.specs.Level.{operand as operandOf, atom as atomOf, group as groupOf, named as namedOf, arguments as argumentsOf};
+ghost use Rattle.reader.specs.Level.{argument as argumentOf, infixes as infixesOf, infixed as infixedOf};
 
 // Reads an expression at the minimum `min`, with so many levels left: the steps of docs/FORMAT.md §4.4.
 pub fn expression(
@@ -67,7 +71,7 @@ pub fn expression(
     let Step::Read(after_infixes) = third else {
         return third;
     };
-    // (d) Postfix operators once more.
+    // (d) Postfix operators once more. This is `any_postfixes` written out: called twice it would stay a call.
     let end = after_infixes.at;
     let n = after_infixes.rows;
     if !postfix_at(tokens, end, min) {
@@ -79,7 +83,7 @@ pub fn expression(
 // Reads a prefix operator of at least `min` with its operand, or else an atom.
 fn operand(text: &[u8], tokens: &[u32], rows: &mut [u64], c: Cursor, rest: usize, min: u32) -> Step
     requires { ⌜ c .at ≤ tokenCount (now tokens) ⌝ }
-    ensures { λ r. ⌜ Gives (operandOf (now (text .entry)) (now (tokens .entry)) (expressionOf (now (text .entry)) (now (tokens .entry)) rest) min c (now (rows .entry))) r (now (rows .exit)) ⌝ }
+    ensures { λ r. ⌜ Gives (operandOf (now (text .entry)) (now (tokens .entry)) rest min c (now (rows .entry))) r (now (rows .exit)) ⌝ }
 {
     let at = c.at;
     let n = c.rows;
@@ -106,7 +110,7 @@ fn operand(text: &[u8], tokens: &[u32], rows: &mut [u64], c: Cursor, rest: usize
 // Reads an atom, by what its token starts.
 fn atom(text: &[u8], tokens: &[u32], rows: &mut [u64], c: Cursor, rest: usize) -> Step
     requires { ⌜ c .at ≤ tokenCount (now tokens) ⌝ }
-    ensures { λ r. ⌜ Gives (atomOf (now (text .entry)) (now (tokens .entry)) (expressionOf (now (text .entry)) (now (tokens .entry)) rest) (startOf (kindAt (now (tokens .entry)) (c .at))) c (now (rows .entry))) r (now (rows .exit)) ⌝ }
+    ensures { λ r. ⌜ Gives (atomOf (now (text .entry)) (now (tokens .entry)) rest c (now (rows .entry))) r (now (rows .exit)) ⌝ }
 {
     let at = c.at;
     match start_of(kind_at(tokens, at)) {
@@ -123,11 +127,18 @@ fn atom(text: &[u8], tokens: &[u32], rows: &mut [u64], c: Cursor, rest: usize) -
 // Reads an expression in parentheses.
 fn group(text: &[u8], tokens: &[u32], rows: &mut [u64], c: Cursor, rest: usize) -> Step
     requires { ⌜ c .at < tokenCount (now tokens) ⌝ }
-    ensures { λ r. ⌜ Gives (groupOf (now (text .entry)) (now (tokens .entry)) (expressionOf (now (text .entry)) (now (tokens .entry)) rest) c (now (rows .entry))) r (now (rows .exit)) ⌝ }
+    ensures { λ r. ⌜ Gives (groupOf (now (text .entry)) (now (tokens .entry)) rest c (now (rows .entry))) r (now (rows .exit)) ⌝ }
 {
     let n = c.rows;
     let after = c.at + 1;
-    let s = expression(&*text, &*tokens, rows, Cursor { at: after, rows: n }, rest, 0);
+    let s = expression(
+        &*text,
+        &*tokens,
+        rows,
+        Cursor { at: after, rows: n },
+        rest,
+        0,
+    );
     let Step::Read(d) = s else {
         return s;
     };
@@ -137,7 +148,7 @@ fn group(text: &[u8], tokens: &[u32], rows: &mut [u64], c: Cursor, rest: usize) 
 // Reads a name: a function, where a parenthesis opens after it, else a column.
 fn named(text: &[u8], tokens: &[u32], rows: &mut [u64], c: Cursor, rest: usize) -> Step
     requires { ⌜ c .at < tokenCount (now tokens) ⌝ }
-    ensures { λ r. ⌜ Gives (namedOf (now (text .entry)) (now (tokens .entry)) (expressionOf (now (text .entry)) (now (tokens .entry)) rest) c (now (rows .entry))) r (now (rows .exit)) ⌝ }
+    ensures { λ r. ⌜ Gives (namedOf (now (text .entry)) (now (tokens .entry)) rest c (now (rows .entry))) r (now (rows .exit)) ⌝ }
 {
     let at = c.at;
     let n = c.rows;
@@ -159,7 +170,7 @@ fn arguments(
     name: usize,
 ) -> Step
     requires { ⌜ start .at ≤ tokenCount (now tokens) ⌝ }
-    ensures { λ r. ⌜ Gives (argumentsOf (now (text .entry)) (now (tokens .entry)) (expressionOf (now (text .entry)) (now (tokens .entry)) rest) name 0 (fuel (now (tokens .entry))) start (now (rows .entry))) r (now (rows .exit)) ⌝ }
+    ensures { λ r. ⌜ Gives (argumentsOf (now (text .entry)) (now (tokens .entry)) rest name start (now (rows .entry))) r (now (rows .exit)) ⌝ }
 {
     let mut c = start;
     let mut n = 0usize;
@@ -193,7 +204,7 @@ fn arguments(
 // Reads an argument, after a comma if it is not the first.
 fn argument(text: &[u8], tokens: &[u32], rows: &mut [u64], c: Cursor, rest: usize, n: usize) -> Step
     requires { ⌜ c .at ≤ tokenCount (now tokens) ⌝ }
-    ensures { λ r. ⌜ Gives (argumentOf (now (text .entry)) (now (tokens .entry)) (expressionOf (now (text .entry)) (now (tokens .entry)) rest) n c (now (rows .entry))) r (now (rows .exit)) ⌝ }
+    ensures { λ r. ⌜ Gives (argumentOf (now (text .entry)) (now (tokens .entry)) rest n c (now (rows .entry))) r (now (rows .exit)) ⌝ }
 {
     if n == 0 {
         return expression(&*text, &*tokens, rows, c, rest, 0);
@@ -215,7 +226,7 @@ fn infixes(
     min: u32,
 ) -> Step
     requires { ⌜ (start .at ≤ tokenCount (now tokens)) × (0 < start .rows) ⌝ }
-    ensures { λ r. ⌜ Gives (infixesOf (now (text .entry)) (now (tokens .entry)) (expressionOf (now (text .entry)) (now (tokens .entry)) rest) min start (now (rows .entry))) r (now (rows .exit)) ⌝ }
+    ensures { λ r. ⌜ Gives (infixesOf (now (text .entry)) (now (tokens .entry)) rest min start (now (rows .entry))) r (now (rows .exit)) ⌝ }
 {
     let mut c = start;
     loop {
@@ -241,7 +252,7 @@ fn infix_at(tokens: &[u32], at: usize, min: u32) -> bool
 // Reads an infix operator, after its left side, with its right side.
 fn infixed(text: &[u8], tokens: &[u32], rows: &mut [u64], c: Cursor, rest: usize) -> Step
     requires { ⌜ (c .at < tokenCount (now tokens)) × (0 < c .rows) ⌝ }
-    ensures { λ r. ⌜ Gives (infixedOf (now (text .entry)) (now (tokens .entry)) (expressionOf (now (text .entry)) (now (tokens .entry)) rest) c (now (rows .entry))) r (now (rows .exit)) ⌝ }
+    ensures { λ r. ⌜ Gives (infixedOf (now (text .entry)) (now (tokens .entry)) rest c (now (rows .entry))) r (now (rows .exit)) ⌝ }
 {
     let at = c.at;
     let n = c.rows;
@@ -272,7 +283,14 @@ fn infixed(text: &[u8], tokens: &[u32], rows: &mut [u64], c: Cursor, rest: usize
 }
 
 // Reads a right side, at the minimum `min`. Most often it is one token, and then takes no call.
-fn right_side(text: &[u8], tokens: &[u32], rows: &mut [u64], c: Cursor, levels: usize, min: u32) -> Step
+fn right_side(
+    text: &[u8],
+    tokens: &[u32],
+    rows: &mut [u64],
+    c: Cursor,
+    levels: usize,
+    min: u32,
+) -> Step
     requires { ⌜ c .at ≤ tokenCount (now tokens) ⌝ }
     ensures { λ r. ⌜ Gives (expressionOf (now (text .entry)) (now (tokens .entry)) levels min c (now (rows .entry))) r (now (rows .exit)) ⌝ }
 {

@@ -1,4 +1,5 @@
-// What saves a call, or the processor a wait. Each answers what the general way answers.
+// Shortcuts: each saves a call, or the processor a wait, and answers what the general way answers. Each is worth a tenth of the time that a short
+// filter takes; docs/PERFORMANCE.md says how fast they are.
 use grammar::Cursor;
 use grammar::Step;
 use numbers::Number;
@@ -88,13 +89,13 @@ pub fn single_token_operand(tokens: &[u32], at: usize, levels: usize, min: u32) 
     !may_follow_operand(kind_at(tokens, after), min)
 }
 
-// Reads a number, most often of digits only.
-fn digits_only(text: &[u8], tokens: &[u32], rows: &mut [u64], c: Cursor) -> Step
+// Reads a number: by one loop where it is an Integer of digits only, else by the general way.
+fn digits_only_numeral(text: &[u8], tokens: &[u32], rows: &mut [u64], c: Cursor) -> Step
     requires { ⌜ c .at < tokenCount (now tokens) ⌝ }
     ensures { λ r. ⌜ Gives (numeralOf (numberOf (spelled (now (text .entry)) (now (tokens .entry)) (c .at))) c (now (rows .entry))) r (now (rows .exit)) ⌝ }
 {
     let at = c.at;
-    let x = numbers::whole_of(table::spelled(text, tokens, at));
+    let x = numbers::digits_only(table::spelled(text, tokens, at));
     let Number::Integer(n) = x else {
         return again(numeral(&*text, &*tokens, rows, c));
     };
@@ -108,7 +109,7 @@ pub fn single_token(text: &[u8], tokens: &[u32], rows: &mut [u64], c: Cursor) ->
 {
     let at = c.at;
     match kind_at(tokens, at) {
-        kind::NUMBER => digits_only(text, tokens, rows, c),
+        kind::NUMBER => digits_only_numeral(text, tokens, rows, c),
         kind::STRING => push_leaf(rows, c, row::STRING, at as u64),
         _ => push_leaf(rows, c, row::COLUMN, at as u64),
     }

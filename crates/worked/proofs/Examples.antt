@@ -25,7 +25,7 @@ pub examples : map (λ (c : List ℕ × List ℕ). c .0) cases ≡ map (λ (c : 
 unfolding cases said.tokens said.parsed said.split said.values said.lookedUp promise.parsing rules._>>=_ rules.while rules.due rules.missing
     rules.need rules.nullOrNan rules.postfix rules.postfixes rules.numeral rules.column rules.group rules.argument rules.arguments
     rules.named rules.atom rules.operand rules.infixed rules.infixes rules.level rules.expression rules.finish rules.wholeExpression
-    operator.among operator.infixOf operator.rightOf operator.prefixOf operator.postfixOf operator.binds atom.startOf
+    operator.among operator.infixOf operator.rightMinimum operator.prefixOf operator.postfixOf operator.binds atom.startOf
     syntax.size syntax.sizes syntax.many syntax.rowsOf syntax.rowsAll token.tokenAt token.kindAt token.known token.fits token.checkFrom
     token.checkTable token.spanOf token.spanAt token.spelled number.digit number.begins number.ended number.pastDigits number.digits
     number.pastFraction number.pastSign number.exponent number.valueFrom number.integerOf number.numberOf order.standsBefore order.before

@@ -26,10 +26,16 @@ digit-requires : tie.Need-digit-requires Inv-loop μ-loop
 digit-requires c κs = search needs
 
 returns : tie.Need-returns Inv-loop μ-loop
-returns c = run-off (c .before .before .before .loop-test .taken) (sym (c .before .digit .ensures) ∙ not-true (c .before .digit .result) (c .if1 .taken)) (c .before .before .before .before .loop .inv)
+returns c =
+    let loop = c .before .before .before .before .loop in
+    let loop-test = c .before .before .before .loop-test in
+    let digit = c .before .digit in
+    run-off (loop-test .taken) (sym (digit .ensures) ∙ not-true (digit .result) (c .if1 .taken)) (loop .inv)
 
 grown-requires : tie.Need-grown-requires Inv-loop μ-loop
-grown-requires c κs = digit-in _ (sym (c .before .digit .ensures) ∙ not-false (c .before .digit .result) (c .if1 .left))
+grown-requires c κs =
+    let digit = c .before .digit in
+    digit-in _ (sym (digit .ensures) ∙ not-false (digit .result) (c .if1 .left))
 
 add-end : tie.Need-add-end Inv-loop μ-loop
 add-end c = omega arith
@@ -38,7 +44,11 @@ loop-less : tie.Need-loop-less Inv-loop μ-loop
 loop-less c = omega arith
 
 loop-again : tie.Need-loop-again Inv-loop μ-loop
-loop-again c = rw (c .grown .ensures) (run-on (c .before .before .before .before .loop-test .taken) (sym (c .before .before .digit .ensures) ∙ not-false (c .before .before .digit .result) (c .before .if1 .left)) (c .before .before .before .before .before .loop .inv))
+loop-again c =
+    let loop = c .before .before .before .before .before .loop in
+    let loop-test = c .before .before .before .before .loop-test in
+    let digit = c .before .before .digit in
+    rw (c .grown .ensures) (run-on (loop-test .taken) (sym (digit .ensures) ∙ not-false (digit .result) (c .before .if1 .left)) (loop .inv))
 
 returns-2 : tie.Need-returns-2 Inv-loop μ-loop
 returns-2 c = run-out (c .loop-test .left) (c .before .loop .inv)

@@ -25,13 +25,20 @@ power-requires-2 : tie.Need-power-requires-2
 power-requires-2 c κs = search needs
 
 returns-2 : tie.Need-returns-2
-returns-2 c = c .power .ensures ∙ sym (exponent-on _ _ (c .before .before .before .if1 .left) (is-first _ 101 69 (c .before .if2 .taken)))
+returns-2 c =
+    let if1 = c .before .before .before .if1 in
+    c .power .ensures ∙ sym (exponent-on _ _ (if1 .left) (is-first _ 101 69 (c .before .if2 .taken)))
 
 returns-3 : tie.Need-returns-3
-returns-3 c = c .power2 .ensures ∙ sym (exponent-on _ _ (c .before .before .before .before .if1 .left) (is-second _ 101 69 (c .before .before .if2 .left) (c .before .if3 .taken)))
+returns-3 c =
+    let if1 = c .before .before .before .before .if1 in
+    let if2 = c .before .before .if2 in
+    c .power2 .ensures ∙ sym (exponent-on _ _ (if1 .left) (is-second _ 101 69 (if2 .left) (c .before .if3 .taken)))
 
 returns-4 : tie.Need-returns-4
-returns-4 c = sym (exponent-off _ _ (c .before .before .before .if1 .left) (is-other _ 101 69 (c .before .if2 .left) (c .if3 .left)))
+returns-4 c =
+    let if1 = c .before .before .before .if1 in
+    sym (exponent-off _ _ (if1 .left) (is-other _ 101 69 (c .before .if2 .left) (c .if3 .left)))
 
 pub exponent-at-spec : {M : Type 1} → statement M
 exponent-at-spec =

@@ -15,13 +15,19 @@ digits-requires : tie.Need-digits-requires
 digits-requires c κs = search needs
 
 returns : tie.Need-returns
-returns c = fraction-on _ _ (c .before .before .before .if1 .taken) (c .before .if2 .taken) (c .digits .ensures)
+returns c =
+    let if1 = c .before .before .before .if1 in
+    fraction-on _ _ (if1 .taken) (c .before .if2 .taken) (c .digits .ensures)
 
 returns-2 : tie.Need-returns-2
-returns-2 c = fraction-off _ _ (c .before .before .if1 .taken) (c .if2 .left)
+returns-2 c =
+    let if1 = c .before .before .if1 in
+    fraction-off _ _ (if1 .taken) (c .if2 .left)
 
 returns-3 : tie.Need-returns-3
-returns-3 c = fraction-end _ _ (c .before .before .pre) (c .if1 .left)
+returns-3 c =
+    let pre = c .before .before .pre in
+    fraction-end _ _ pre (c .if1 .left)
 
 pub fraction-spec : {M : Type 1} → statement M
 fraction-spec =

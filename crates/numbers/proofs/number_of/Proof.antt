@@ -16,7 +16,10 @@ integer-requires : tie.Need-integer-requires
 integer-requires c κs = search needs
 
 returns-2 : tie.Need-returns-2
-returns-2 c = c .integer .ensures ∙ run-integer _ _ (c .before .before .before .digits .ensures) (c .before .before .if1 .left) (c .before .if2 .taken)
+returns-2 c =
+    let digits = c .before .before .before .digits in
+    let if1 = c .before .before .if1 in
+    c .integer .ensures ∙ run-integer _ _ (digits .ensures) (if1 .left) (c .before .if2 .taken)
 
 fraction-requires : tie.Need-fraction-requires
 fraction-requires c κs = search needs
@@ -25,10 +28,20 @@ exponent-at-requires : tie.Need-exponent-at-requires
 exponent-at-requires c κs = search needs
 
 returns-3 : tie.Need-returns-3
-returns-3 c = run-float _ _ (c .before .before .before .before .before .digits .ensures) _ (c .before .before .before .before .if1 .left) (c .before .before .before .if2 .left) (c .before .before .fraction .ensures) (sym (c .before .exponent-at .ensures) ∙ c .if3 .taken)
+returns-3 c =
+    let digits = c .before .before .before .before .before .digits in
+    let if1 = c .before .before .before .before .if1 in
+    let if2 = c .before .before .before .if2 in
+    let fraction = c .before .before .fraction in
+    run-float _ _ (digits .ensures) _ (if1 .left) (if2 .left) (fraction .ensures) (sym (c .before .exponent-at .ensures) ∙ c .if3 .taken)
 
 returns-4 : tie.Need-returns-4
-returns-4 c = run-bad _ _ (c .before .before .before .before .before .digits .ensures) _ (c .before .before .before .before .if1 .left) (c .before .before .before .if2 .left) (c .before .before .fraction .ensures) (sym (c .before .exponent-at .ensures) ∙ c .if3 .left)
+returns-4 c =
+    let digits = c .before .before .before .before .before .digits in
+    let if1 = c .before .before .before .before .if1 in
+    let if2 = c .before .before .before .if2 in
+    let fraction = c .before .before .fraction in
+    run-bad _ _ (digits .ensures) _ (if1 .left) (if2 .left) (fraction .ensures) (sym (c .before .exponent-at .ensures) ∙ c .if3 .left)
 
 pub number-of-spec : {M : Type 1} → statement M
 number-of-spec =

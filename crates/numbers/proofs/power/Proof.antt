@@ -14,10 +14,16 @@ digits-requires : tie.Need-digits-requires
 digits-requires c κs = c .sign .ensures .within
 
 returns : tie.Need-returns
-returns c = let run = c .before .digits .ensures in sym (digits-both _ (run-some _ _ _ run (c .if1 .taken)) _ (run-ended _ _ _ run)) ∙ ap digits (c .before .before .sign .ensures .left)
+returns c =
+    let run = c .before .digits .ensures in
+    let sign = c .before .before .sign in
+    sym (digits-both _ (run-some _ _ _ run (c .if1 .taken)) _ (run-ended _ _ _ run)) ∙ ap digits (sign .ensures .left)
 
 returns-2 : tie.Need-returns-2
-returns-2 c = let run = c .before .digits .ensures in sym (digits-none _ (run-none _ _ _ run (c .if1 .left))) ∙ ap digits (c .before .before .sign .ensures .left)
+returns-2 c =
+    let run = c .before .digits .ensures in
+    let sign = c .before .before .sign in
+    sym (digits-none _ (run-none _ _ _ run (c .if1 .left))) ∙ ap digits (sign .ensures .left)
 
 pub power-spec : {M : Type 1} → statement M
 power-spec = tie.close (tie.spec sign-requires digits-requires returns returns-2)

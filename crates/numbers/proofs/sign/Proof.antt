@@ -15,13 +15,19 @@ add-result-2 : tie.Need-add-result-2
 add-result-2 c = search needs
 
 returns : tie.Need-returns
-returns c = sign-on _ _ (c .before .before .if1 .taken) (is-first _ 43 45 (c .if2 .taken))
+returns c =
+    let if1 = c .before .before .if1 in
+    sign-on _ _ (if1 .taken) (is-first _ 43 45 (c .if2 .taken))
 
 returns-2 : tie.Need-returns-2
-returns-2 c = sign-on _ _ (c .before .before .before .if1 .taken) (is-second _ 43 45 (c .before .if2 .left) (c .if3 .taken))
+returns-2 c =
+    let if1 = c .before .before .before .if1 in
+    sign-on _ _ (if1 .taken) (is-second _ 43 45 (c .before .if2 .left) (c .if3 .taken))
 
 returns-3 : tie.Need-returns-3
-returns-3 c = sign-off _ _ (c .before .before .before .if1 .taken) (is-other _ 43 45 (c .before .if2 .left) (c .if3 .left))
+returns-3 c =
+    let if1 = c .before .before .before .if1 in
+    sign-off _ _ (if1 .taken) (is-other _ 43 45 (c .before .if2 .left) (c .if3 .left))
 
 returns-4 : tie.Need-returns-4
 returns-4 c = sign-end _ _ (c .before .pre) (c .if1 .left)

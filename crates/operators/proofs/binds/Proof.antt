@@ -10,11 +10,15 @@ use Rattle.operators.proofs.binds.Tie as tie
 
 returns : tie.Need-returns
 unfolding binds
-returns c = sym (ap (λ (b : Bool). b && leb (c .before .args .min) (c .before .args .precedence)) (lt-ltb _ _ (c .if1 .taken)))
+returns c =
+    let args = c .before .args in
+    sym (ap (λ (b : Bool). b && leb (args .min) (args .precedence)) (lt-ltb _ _ (c .if1 .taken)))
 
 returns-2 : tie.Need-returns-2
 unfolding binds
-returns-2 c = sym (ap (λ (b : Bool). b && leb (c .before .args .min) (c .before .args .precedence)) (le-ltb _ _ (c .if1 .left)))
+returns-2 c =
+    let args = c .before .args in
+    sym (ap (λ (b : Bool). b && leb (args .min) (args .precedence)) (le-ltb _ _ (c .if1 .left)))
 
 pub binds-spec : {M : Type 1} → statement M
 binds-spec = tie.close (tie.spec returns returns-2)

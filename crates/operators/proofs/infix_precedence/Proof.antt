@@ -73,7 +73,59 @@ returns-16 c = sym (ap (λ (k : ℕ). infixOf k .precedence) (c .if16 .taken))
 
 returns-17 : tie.Need-returns-17
 unfolding infixOf among
-returns-17 c = sym (ap (λ (o : Operator). o .precedence) (not-among _ no infixTable ((((((((((((((((tt, c .before .before .before .before .before .before .before .before .before .before .before .before .before .before .before .if1 .left), c .before .before .before .before .before .before .before .before .before .before .before .before .before .before .if2 .left), c .before .before .before .before .before .before .before .before .before .before .before .before .before .if3 .left), c .before .before .before .before .before .before .before .before .before .before .before .before .if4 .left), c .before .before .before .before .before .before .before .before .before .before .before .if5 .left), c .before .before .before .before .before .before .before .before .before .before .if6 .left), c .before .before .before .before .before .before .before .before .before .if7 .left), c .before .before .before .before .before .before .before .before .if8 .left), c .before .before .before .before .before .before .before .if9 .left), c .before .before .before .before .before .before .if10 .left), c .before .before .before .before .before .if11 .left), c .before .before .before .before .if12 .left), c .before .before .before .if13 .left), c .before .before .if14 .left), c .before .if15 .left), c .if16 .left)))
+returns-17 c =
+    let at-if4 = c .before .before .before .before .before .before .before .before .before .before .before .before in
+    let if1 = at-if4 .before .before .before .if1 in
+    let if2 = at-if4 .before .before .if2 in
+    let if3 = at-if4 .before .if3 in
+    let if4 = at-if4 .if4 in
+    let if5 = c .before .before .before .before .before .before .before .before .before .before .before .if5 in
+    let if6 = c .before .before .before .before .before .before .before .before .before .before .if6 in
+    let if7 = c .before .before .before .before .before .before .before .before .before .if7 in
+    let if8 = c .before .before .before .before .before .before .before .before .if8 in
+    let if9 = c .before .before .before .before .before .before .before .if9 in
+    let if10 = c .before .before .before .before .before .before .if10 in
+    let if11 = c .before .before .before .before .before .if11 in
+    let if12 = c .before .before .before .before .if12 in
+    let if13 = c .before .before .before .if13 in
+    let if14 = c .before .before .if14 in
+    sym (ap (λ (o : Operator). o .precedence)
+    (not-among _ no infixTable (
+      (
+        (
+          (
+            (
+              (
+                (
+                  (
+                    (
+                      (
+                        (
+                          (((((tt, if1 .left), if2 .left), if3 .left), if4 .left), if5 .left),
+                          if6 .left,
+                        ),
+                        if7 .left,
+                      ),
+                      if8 .left,
+                    ),
+                    if9 .left,
+                  ),
+                  if10 .left,
+                ),
+                if11 .left,
+              ),
+              if12 .left,
+            ),
+            if13 .left,
+          ),
+          if14 .left,
+        ),
+        c .before .if15 .left,
+      ),
+      c .if16 .left,
+    )))
 
 pub infix-precedence-spec : {M : Type 1} → statement M
-infix-precedence-spec = tie.close (tie.spec returns returns-2 returns-3 returns-4 returns-5 returns-6 returns-7 returns-8 returns-9 returns-10 returns-11 returns-12 returns-13 returns-14 returns-15 returns-16 returns-17)
+infix-precedence-spec =
+    tie.close (tie.spec returns returns-2 returns-3 returns-4 returns-5 returns-6 returns-7 returns-8 returns-9 returns-10 returns-11 returns-12
+    returns-13 returns-14 returns-15 returns-16 returns-17)

@@ -76,4 +76,6 @@ unfolding infixOf among
 returns-17 c = sym (ap (λ (o : Operator). o .row) (not-among _ no infixTable (c .match .rest)))
 
 pub infix-row-spec : {M : Type 1} → statement M
-infix-row-spec = tie.close (tie.spec returns returns-2 returns-3 returns-4 returns-5 returns-6 returns-7 returns-8 returns-9 returns-10 returns-11 returns-12 returns-13 returns-14 returns-15 returns-16 returns-17)
+infix-row-spec =
+    tie.close (tie.spec returns returns-2 returns-3 returns-4 returns-5 returns-6 returns-7 returns-8 returns-9 returns-10 returns-11 returns-12
+    returns-13 returns-14 returns-15 returns-16 returns-17)

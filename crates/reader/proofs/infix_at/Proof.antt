@@ -17,7 +17,11 @@ binds-requires : tie.Need-binds-requires
 binds-requires c κs = search needs
 
 returns : tie.Need-returns
-returns c = c .binds .ensures ∙ ap (λ (p : ℕ). binds p (c .before .before .before .before .args .min)) (c .before .infix-precedence .ensures ∙ ap (λ (k : ℕ). infixOf k .precedence) (c .before .before .kind-at .ensures))
+returns c =
+    let args = c .before .before .before .before .args in
+    let kind-at = c .before .before .kind-at in
+    c .binds .ensures
+    ∙ ap (λ (p : ℕ). binds p (args .min)) (c .before .infix-precedence .ensures ∙ ap (λ (k : ℕ). infixOf k .precedence) (kind-at .ensures))
 
 pub infix-at-spec : {M : Type 1} → statement M
 infix-at-spec = tie.close (tie.spec kind-at-requires infix-precedence-requires binds-requires returns)

@@ -17,10 +17,14 @@ abbrev calls : ℕ → group-lts.Claims
 calls t = (expression-below t, expression.Post, need-reads.Asked, need-reads.Learnt)
 
 pub group-add-after : (t : ℕ) → group-lts.Need-add-after (calls t) (group-at t) group.Post
-group-add-after t c = omega (arith, c .before .before .before .before .pre .1)
+group-add-after t c =
+    let pre = c .before .before .before .before .pre in
+    omega (arith, pre .1)
 
 pub group-expression-requires : (t : ℕ) → group-lts.Need-expression-requires (calls t) (group-at t) group.Post
-group-expression-requires t c κs = (omega (arith, c .before .before .before .before .before .pre .0), omega (arith, c .before .before .before .before .before .pre .1))
+group-expression-requires t c κs =
+    let pre = c .before .before .before .before .before .pre in
+    (omega (arith, pre .0), omega (arith, pre .1))
 
 pub group-enum-known-s : (t : ℕ) → group-lts.Need-enum-known-s (calls t) (group-at t) group.Post
 group-enum-known-s t c = search needs
@@ -33,7 +37,9 @@ group-same-length t c = search needs
 
 pub group-returns : (t : ℕ) → group-lts.Need-returns (calls t) (group-at t) group.Post
 unfolding M.group
-group-returns t c = after-refused _ (c .enum-told .given .1) (c .before .before .before .before .expression .ensures) refl
+group-returns t c =
+    let the-expression = c .before .before .before .before .expression in
+    after-refused _ (c .enum-told .given .1) (the-expression .ensures) refl
 
 pub group-need-requires : (t : ℕ) → group-lts.Need-need-requires (calls t) (group-at t) group.Post
 group-need-requires t c κs = search needs
@@ -43,4 +49,7 @@ group-same-length-2 t c = search needs
 
 pub group-returns-2 : (t : ℕ) → group-lts.Need-returns-2 (calls t) (group-at t) group.Post
 unfolding M.group
-group-returns-2 t c = gives-same (sym (after-read _ (c .before .before .s .given .1) (c .before .before .before .before .before .before .expression .ensures))) (c .need .ensures _)
+group-returns-2 t c =
+    let the-expression = c .before .before .before .before .before .before .expression in
+    let s = c .before .before .s in
+    gives-same (sym (after-read _ (s .given .1) (the-expression .ensures))) (c .need .ensures _)

@@ -27,30 +27,49 @@ abbrev calls : ℕ → infixes-lts.Claims
 calls t = (infix-at-reads.Asked, infix-at-reads.Learnt, infixed-below t, infixed.Post)
 
 abbrev pub infixes-Inv-loop : infixes-lts.InvT-loop
-infixes-Inv-loop text tokens rows₀ rest min c₀ rows c = Turning (M.while (λ (at : ℕ). binds (infixOf (kindAt tokens at) .precedence) min) (M.infixed text tokens (M.expression text tokens rest))) (M.infixes text tokens (M.expression text tokens rest) min c₀ rows₀) tokens rows₀ c rows × (0 < c .rows)
+infixes-Inv-loop text tokens rows₀ rest min c₀ rows c =
+    Turning
+    (M.while (λ (at : ℕ). binds (infixOf (kindAt tokens at) .precedence) min) (M.infixed text tokens (M.expression text tokens rest)))
+    (M.infixes text tokens (M.expression text tokens rest) min c₀ rows₀) tokens rows₀ c rows
+    × (0 < c .rows)
 
 abbrev pub infixes-μ-loop : infixes-lts.MeasureT-loop
 infixes-μ-loop text tokens rows₀ rest min c₀ rows c = tokenCount tokens - c .at
 
 pub infixes-loop-holds : (t : ℕ) → infixes-lts.Need-loop-holds (calls t) (infixes-at t) infixes.Post infixes-Inv-loop infixes-μ-loop
 unfolding M.infixes
-infixes-loop-holds t c = (begins _ _ _ _ (c .before .before .before .pre .1 .0), c .before .before .before .pre .1 .1)
+infixes-loop-holds t c =
+    let pre = c .before .before .before .pre in
+    (begins _ _ _ _ (pre .1 .0), pre .1 .1)
 
 pub infixes-infix-at-requires : (t : ℕ) → infixes-lts.Need-infix-at-requires (calls t) (infixes-at t) infixes.Post infixes-Inv-loop infixes-μ-loop
 infixes-infix-at-requires t c κs = search needs
 
 pub infixes-same-length : (t : ℕ) → infixes-lts.Need-same-length (calls t) (infixes-at t) infixes.Post infixes-Inv-loop infixes-μ-loop
-infixes-same-length t c = c .before .before .loop .inv .0 .size
+infixes-same-length t c =
+    let loop = c .before .before .loop in
+    loop .inv .0 .size
 
 pub infixes-returns : (t : ℕ) → infixes-lts.Need-returns (calls t) (infixes-at t) infixes.Post infixes-Inv-loop infixes-μ-loop
-infixes-returns t c = gives-read (sym (c .before .before .loop .inv .0 .same) ∙ while-off _ _ _ _ _ (sym (c .before .infix-at .ensures) ∙ not-true (c .before .infix-at .result) (c .if1 .taken)))
+infixes-returns t c =
+    let loop = c .before .before .loop in
+    let infix-at = c .before .infix-at in
+    gives-read (sym (loop .inv .0 .same) ∙ while-off _ _ _ _ _ (sym (infix-at .ensures) ∙ not-true (infix-at .result) (c .if1 .taken)))
 
 -- where the loop goes after-read, an infix operator stands
-is : (t : ℕ) (c : infixes-lts.Else1 (calls t) (infixes-at t) infixes.Post infixes-Inv-loop infixes-μ-loop) → binds (infixOf (kindAt (c .before .before .before .before .before .before .args .tokens .now) (c .before .before .loop .c .at)) .precedence) (c .before .before .before .before .before .before .args .min) ≡ true
-is t c = sym (c .before .infix-at .ensures) ∙ not-false (c .before .infix-at .result) (c .if1 .left)
+is : (t : ℕ) (c : infixes-lts.Else1 (calls t) (infixes-at t) infixes.Post infixes-Inv-loop infixes-μ-loop) →
+    let args = c .before .before .before .before .before .before .args in
+    let loop = c .before .before .loop in
+    binds (infixOf (kindAt (args .tokens .now) (loop .c .at)) .precedence) (args .min) ≡ true
+is t c =
+    let infix-at = c .before .infix-at in
+    sym (infix-at .ensures) ∙ not-false (infix-at .result) (c .if1 .left)
 
 pub infixes-infixed-requires : (t : ℕ) → infixes-lts.Need-infixed-requires (calls t) (infixes-at t) infixes.Post infixes-Inv-loop infixes-μ-loop
-infixes-infixed-requires t c κs = (omega (arith, c .before .before .before .before .before .before .before .pre .0), (infix-in _ _ _ (is t (c .before)), c .before .before .before .loop .inv .1))
+infixes-infixed-requires t c κs =
+    let pre = c .before .before .before .before .before .before .before .pre in
+    let loop = c .before .before .before .loop in
+    (omega (arith, pre .0), (infix-in _ _ _ (is t (c .before)), loop .inv .1))
 
 pub infixes-enum-known-s : (t : ℕ) → infixes-lts.Need-enum-known-s (calls t) (infixes-at t) infixes.Post infixes-Inv-loop infixes-μ-loop
 infixes-enum-known-s t c = search needs
@@ -59,20 +78,38 @@ pub infixes-enum-told : (t : ℕ) → infixes-lts.Need-enum-told (calls t) (infi
 infixes-enum-told t c = search needs
 
 pub infixes-same-length-2 : (t : ℕ) → infixes-lts.Need-same-length-2 (calls t) (infixes-at t) infixes.Post infixes-Inv-loop infixes-μ-loop
-infixes-same-length-2 t c = c .before .before .before .before .infixed .kept .1 .1 .0 ∙ c .before .before .before .before .before .before .before .before .loop .inv .0 .size
+infixes-same-length-2 t c =
+    let loop = c .before .before .before .before .before .before .before .before .loop in
+    let the-infixed = c .before .before .before .before .infixed in
+    the-infixed .kept .1 .1 .0 ∙ loop .inv .0 .size
 
 pub infixes-returns-2 : (t : ℕ) → infixes-lts.Need-returns-2 (calls t) (infixes-at t) infixes.Post infixes-Inv-loop infixes-μ-loop
-infixes-returns-2 t c = after-refused _ (c .enum-told .given .1) (c .before .before .before .before .infixed .ensures) (sym (while-on _ _ _ _ _ (is t (c .before .before .before .before .before .before))) ∙ c .before .before .before .before .before .before .before .before .loop .inv .0 .same)
+infixes-returns-2 t c =
+    let place = c .before .before .before .before .before .before in
+    let loop = place .before .before .loop in
+    let the-infixed = c .before .before .before .before .infixed in
+    after-refused _ (c .enum-told .given .1) (the-infixed .ensures) (sym (while-on _ _ _ _ _ (is t place)) ∙ loop .inv .0 .same)
 
 -- where a turn ends
-moved : (t : ℕ) (c : infixes-lts.After-s (calls t) (infixes-at t) infixes.Post infixes-Inv-loop infixes-μ-loop) → Moves (c .before .before .before .before .before .before .before .before .before .before .before .before .args .tokens .now) (c .before .before .before .before .before .before .before .before .loop .c .at + 1) (c .s .given .0 .0)
-moved t c = came (c .s .given .1) (c .before .before .before .before .infixed .ensures) (infixed-advances _ _ _ (expression-advances _ _ _) _ _ (infix-in _ _ _ (is t (c .before .before .before .before .before .before))))
+moved : (t : ℕ) (c : infixes-lts.After-s (calls t) (infixes-at t) infixes.Post infixes-Inv-loop infixes-μ-loop) →
+    let args = c .before .before .before .before .before .before .before .before .before .before .before .before .args in
+    let loop = c .before .before .before .before .before .before .before .before .loop in
+    Moves (args .tokens .now) (loop .c .at + 1) (c .s .given .0 .0)
+moved t c =
+    let place = c .before .before .before .before .before .before in
+    let the-infixed = c .before .before .before .before .infixed in
+    came (c .s .given .1) (the-infixed .ensures) (infixed-advances _ _ _ (expression-advances _ _ _) _ _ (infix-in _ _ _ (is t place)))
 
 pub infixes-loop-less : (t : ℕ) → infixes-lts.Need-loop-less (calls t) (infixes-at t) infixes.Post infixes-Inv-loop infixes-μ-loop
 infixes-loop-less t c = let m = moved t (c .before) in omega (arith, m .least, m .within)
 
 pub infixes-loop-again : (t : ℕ) → infixes-lts.Need-loop-again (calls t) (infixes-at t) infixes.Post infixes-Inv-loop infixes-μ-loop
-infixes-loop-again t c = (
-  turns (c .before .before .before .before .before .before .before .before .before .loop .inv .0) (c .before .before .before .before .before .infixed .kept .1 .1 .0) (moved t (c .before)) (while-on _ _ _ _ _ (is t (c .before .before .before .before .before .before .before)) ∙ after-read _ (c .before .s .given .1) (c .before .before .before .before .before .infixed .ensures)),
-  came (c .before .s .given .1) (c .before .before .before .before .before .infixed .ensures) (infixed-writes _ _ _ (expression-writes _ _ _) _ _),
-)
+infixes-loop-again t c =
+    let place = c .before .before .before .before .before .before .before in
+    let loop = place .before .before .loop in
+    let the-infixed = c .before .before .before .before .before .infixed in
+    let s = c .before .s in (
+      turns (loop .inv .0) (the-infixed .kept .1 .1 .0) (moved t (c .before))
+          (while-on _ _ _ _ _ (is t place) ∙ after-read _ (s .given .1) (the-infixed .ensures)),
+      came (s .given .1) (the-infixed .ensures) (infixed-writes _ _ _ (expression-writes _ _ _) _ _),
+    )

@@ -20,28 +20,43 @@ abbrev calls : ℕ → named-lts.Claims
 calls t = (kind-at-reads.Asked, kind-at-reads.Learnt, column-reads.Asked, column-reads.Learnt, arguments-below t, arguments.Post)
 
 pub named-add-after : (t : ℕ) → named-lts.Need-add-after (calls t) (named-at t) named.Post
-named-add-after t c = omega (arith, c .before .before .before .pre .1)
+named-add-after t c =
+    let pre = c .before .before .before .pre in
+    omega (arith, pre .1)
 
 pub named-kind-at-requires : (t : ℕ) → named-lts.Need-kind-at-requires (calls t) (named-at t) named.Post
 named-kind-at-requires t c κs = search needs
 
 pub named-column-requires : (t : ℕ) → named-lts.Need-column-requires (calls t) (named-at t) named.Post
-named-column-requires t c κs = c .before .before .before .before .before .before .pre .1
+named-column-requires t c κs =
+    let pre = c .before .before .before .before .before .before .pre in
+    pre .1
 
 pub named-same-length : (t : ℕ) → named-lts.Need-same-length (calls t) (named-at t) named.Post
 named-same-length t c = search needs
 
 pub named-returns : (t : ℕ) → named-lts.Need-returns (calls t) (named-at t) named.Post
-named-returns t c = gives-same (sym (named-column _ _ _ _ _ (λ e. c .before .before .before .before .if1 .taken (c .before .before .before .before .before .kind-at .ensures ∙ e)))) (c .before .before .column .ensures)
+named-returns t c =
+    let kind-at = c .before .before .before .before .before .kind-at in
+    let if1 = c .before .before .before .before .if1 in
+    let column = c .before .before .column in
+    gives-same (sym (named-column _ _ _ _ _ (λ e. if1 .taken (kind-at .ensures ∙ e)))) (column .ensures)
 
 pub named-add-first : (t : ℕ) → named-lts.Need-add-first (calls t) (named-at t) named.Post
 named-add-first t c = omega (arith, kind-is _ _ kind.openParen (omega arith) (sym (c .before .kind-at .ensures) ∙ c .if1 .left))
 
 pub named-arguments-requires : (t : ℕ) → named-lts.Need-arguments-requires (calls t) (named-at t) named.Post
-named-arguments-requires t c κs = (omega (arith, c .before .before .before .before .before .before .pre .0), omega (arith, kind-is _ _ kind.openParen (omega arith) (sym (c .before .before .kind-at .ensures) ∙ c .before .if1 .left)))
+named-arguments-requires t c κs =
+    let pre = c .before .before .before .before .before .before .pre in
+    let kind-at = c .before .before .kind-at in
+    (omega (arith, pre .0), omega (arith, kind-is _ _ kind.openParen (omega arith) (sym (kind-at .ensures) ∙ c .before .if1 .left)))
 
 pub named-same-length-2 : (t : ℕ) → named-lts.Need-same-length-2 (calls t) (named-at t) named.Post
 named-same-length-2 t c = search needs
 
 pub named-returns-2 : (t : ℕ) → named-lts.Need-returns-2 (calls t) (named-at t) named.Post
-named-returns-2 t c = gives-same (sym (named-open _ _ _ _ _ (sym (c .before .before .before .before .before .kind-at .ensures) ∙ c .before .before .before .before .if1 .left))) (c .before .before .arguments .ensures)
+named-returns-2 t c =
+    let kind-at = c .before .before .before .before .before .kind-at in
+    let if1 = c .before .before .before .before .if1 in
+    let the-arguments = c .before .before .arguments in
+    gives-same (sym (named-open _ _ _ _ _ (sym (kind-at .ensures) ∙ if1 .left))) (the-arguments .ensures)

@@ -14,7 +14,9 @@ postfix-at-requires c κs = search needs
 
 returns : tie.Need-returns
 unfolding postfixes
-returns c = gives-read (while-off _ _ _ _ _ (sym (c .before .postfix-at .ensures) ∙ not-true (c .before .postfix-at .result) (c .if1 .taken)))
+returns c =
+    let postfix-at = c .before .postfix-at in
+    gives-read (while-off _ _ _ _ _ (sym (postfix-at .ensures) ∙ not-true (postfix-at .result) (c .if1 .taken)))
 
 postfixes-requires : tie.Need-postfixes-requires
 postfixes-requires c κs = search needs
@@ -26,7 +28,9 @@ same-length : tie.Need-same-length
 same-length c = search needs
 
 returns-2 : tie.Need-returns-2
-returns-2 c = rw (c .again .ensures) (c .before .before .before .postfixes .ensures)
+returns-2 c =
+    let the-postfixes = c .before .before .before .postfixes in
+    rw (c .again .ensures) (the-postfixes .ensures)
 
 pub any-postfixes-spec : {M : Type 1} → statement M
 any-postfixes-spec =

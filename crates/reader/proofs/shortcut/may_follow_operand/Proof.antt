@@ -29,10 +29,20 @@ unfolding mayFollowOperand
 returns-2 c = sym (ap (λ (k : ℕ). mayFollowOperand k (c .before .args .min)) (c .match .keys2))
 
 returns-3 : tie.Need-returns-3
-returns-3 c = sym (may-follow-infix _ _ (c .before .before .before .match .rest .0 .1) (c .before .before .before .match .rest .1) (rw (c .before .before .infix-precedence .ensures) at (sym (c .before .binds .ensures) ∙ c .if1 .taken)))
+returns-3 c =
+    let match = c .before .before .before .match in
+    let infix-precedence = c .before .before .infix-precedence in
+    sym (may-follow-infix _ _ (match .rest .0 .1) (match .rest .1)
+    (rw (infix-precedence .ensures) at (sym (c .before .binds .ensures) ∙ c .if1 .taken)))
 
 returns-4 : tie.Need-returns-4
-returns-4 c = rw (c .before .postfix-precedence .ensures) at (c .binds2 .ensures) ∙ sym (may-follow-postfix _ _ (c .before .before .before .before .before .match .rest .0 .1) (c .before .before .before .before .before .match .rest .1) (rw (c .before .before .before .before .infix-precedence .ensures) at (sym (c .before .before .before .binds .ensures) ∙ c .before .before .if1 .left)))
+returns-4 c =
+    let match = c .before .before .before .before .before .match in
+    let infix-precedence = c .before .before .before .before .infix-precedence in
+    let binds = c .before .before .before .binds in
+    let if1 = c .before .before .if1 in
+    rw (c .before .postfix-precedence .ensures) at (c .binds2 .ensures)
+    ∙ sym (may-follow-postfix _ _ (match .rest .0 .1) (match .rest .1) (rw (infix-precedence .ensures) at (sym (binds .ensures) ∙ if1 .left)))
 
 pub may-follow-operand-spec : {M : Type 1} → statement M
 may-follow-operand-spec =

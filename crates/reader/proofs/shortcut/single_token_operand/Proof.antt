@@ -20,7 +20,10 @@ starts-leaf-requires : tie.Need-starts-leaf-requires
 starts-leaf-requires c κs = search needs
 
 returns-2 : tie.Need-returns-2
-returns-2 c = sym (single-without-leaf _ _ _ _ (rw (c .before .before .kind-at .ensures) at (sym (c .before .starts-leaf .ensures) ∙ not-true (c .before .starts-leaf .result) (c .if2 .taken))))
+returns-2 c =
+    let kind-at = c .before .before .kind-at in
+    let starts-leaf = c .before .starts-leaf in
+    sym (single-without-leaf _ _ _ _ (rw (kind-at .ensures) at (sym (starts-leaf .ensures) ∙ not-true (starts-leaf .result) (c .if2 .taken))))
 
 add-after : tie.Need-add-after
 add-after c = search needs
@@ -33,7 +36,13 @@ may-follow-operand-requires c κs = search needs
 
 returns-3 : tie.Need-returns-3
 returns-3 c =
-    ap not (rw (c .before .kind-at2 .ensures) at (c .may-follow-operand .ensures)) ∙ sym (single-with-leaf _ _ _ _ (omega (arith, c .before .before .before .before .before .if1 .left)) (rw (c .before .before .before .before .kind-at .ensures) at (sym (c .before .before .before .starts-leaf .ensures) ∙ not-false (c .before .before .before .starts-leaf .result) (c .before .before .if2 .left))))
+    let if1 = c .before .before .before .before .before .if1 in
+    let kind-at = c .before .before .before .before .kind-at in
+    let starts-leaf = c .before .before .before .starts-leaf in
+    let if2 = c .before .before .if2 in
+    ap not (rw (c .before .kind-at2 .ensures) at (c .may-follow-operand .ensures))
+    ∙ sym (single-with-leaf _ _ _ _ (omega (arith, if1 .left))
+    (rw (kind-at .ensures) at (sym (starts-leaf .ensures) ∙ not-false (starts-leaf .result) (if2 .left))))
 
 pub single-token-operand-spec : {M : Type 1} → statement M
 single-token-operand-spec =

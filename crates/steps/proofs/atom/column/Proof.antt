@@ -20,7 +20,11 @@ same-length : tie.Need-same-length
 same-length c = search needs
 
 returns : tie.Need-returns
-returns c = gives-same (sym (column-plain _ _ _ (λ e. c .before .before .before .before .if1 .taken (c .before .before .before .before .before .kind-at .ensures ∙ e)))) (c .before .before .push-leaf .ensures)
+returns c =
+    let kind-at = c .before .before .before .before .before .kind-at in
+    let if1 = c .before .before .before .before .if1 in
+    let push-leaf = c .before .before .push-leaf in
+    gives-same (sym (column-plain _ _ _ (λ e. if1 .taken (kind-at .ensures ∙ e)))) (push-leaf .ensures)
 
 add-name : tie.Need-add-name
 add-name c = search needs
@@ -35,7 +39,11 @@ enum-told : tie.Need-enum-told
 enum-told c = search needs
 
 returns-2 : tie.Need-returns-2
-returns-2 c = after-refused _ (c .enum-told .given .1) (c .before .before .need .ensures _) (sym (column-dot _ _ _ (sym (c .before .before .before .before .kind-at .ensures) ∙ c .before .before .before .if1 .left)))
+returns-2 c =
+    let kind-at = c .before .before .before .before .kind-at in
+    let if1 = c .before .before .before .if1 in
+    let need = c .before .before .need in
+    after-refused _ (c .enum-told .given .1) (need .ensures _) (sym (column-dot _ _ _ (sym (kind-at .ensures) ∙ if1 .left)))
 
 push-row-requires : tie.Need-push-row-requires
 push-row-requires c κs = search needs
@@ -44,7 +52,14 @@ same-length-2 : tie.Need-same-length-2
 same-length-2 c = search needs
 
 returns-3 : tie.Need-returns-3
-returns-3 c = gives-same (sym (after-read _ (c .before .before .before .before .before .s .given .1) (c .before .before .before .before .before .before .before .need .ensures _)) ∙ sym (column-dot _ _ _ (sym (c .before .before .before .before .before .before .before .before .before .kind-at .ensures) ∙ c .before .before .before .before .before .before .before .before .if1 .left))) (c .before .before .push-row .ensures)
+returns-3 c =
+    let kind-at = c .before .before .before .before .before .before .before .before .before .kind-at in
+    let if1 = c .before .before .before .before .before .before .before .before .if1 in
+    let need = c .before .before .before .before .before .before .before .need in
+    let s = c .before .before .before .before .before .s in
+    let push-row = c .before .before .push-row in
+    gives-same (sym (after-read _ (s .given .1) (need .ensures _)) ∙ sym (column-dot _ _ _ (sym (kind-at .ensures) ∙ if1 .left)))
+    (push-row .ensures)
 
 pub column-spec : {M : Type 1} → statement M
 column-spec =

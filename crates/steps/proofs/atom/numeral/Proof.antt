@@ -35,18 +35,39 @@ same-length c = search needs
 
 returns : tie.Need-returns
 unfolding numeral
-returns c = gives-same (sym (ap (λ (x : Number). numeral x (c .before .before .before .before .before .before .before .before .before .before .before .before .args .c) (c .before .before .before .before .before .before .before .before .before .before .before .before .args .rows .now)) (sym (ap numberOf (c .before .before .before .before .before .before .before .before .spelled .ensures .0)) ∙ sym (c .before .before .before .before .before .before .before .number-of .ensures) ∙ c .before .before .before .before .before .n .given .1))) (c .before .before .push-leaf .ensures)
+returns c =
+    let args = c .before .before .before .before .before .before .before .before .before .before .before .before .args in
+    let spelled = c .before .before .before .before .before .before .before .before .spelled in
+    let number-of = c .before .before .before .before .before .before .before .number-of in
+    let n = c .before .before .before .before .before .n in
+    let push-leaf = c .before .before .push-leaf in
+    gives-same
+    (sym (ap (λ (x : Number). numeral x (args .c) (args .rows .now))
+    (sym (ap numberOf (spelled .ensures .0)) ∙ sym (number-of .ensures) ∙ n .given .1))) (push-leaf .ensures)
 
 same-length-2 : tie.Need-same-length-2
 same-length-2 c = search needs
 
 returns-2 : tie.Need-returns-2
 unfolding numeral
-returns-2 c = gives-same (sym (ap (λ (x : Number). numeral x (c .before .before .before .before .before .before .before .before .before .before .before .args .c) (c .before .before .before .before .before .before .before .before .before .before .before .args .rows .now)) (sym (ap numberOf (c .before .before .before .before .before .before .before .spelled .ensures .0)) ∙ sym (c .before .before .before .before .before .before .number-of .ensures) ∙ c .before .before .before .before .enum-told .given .1))) (c .before .before .push-leaf2 .ensures)
+returns-2 c =
+    let args = c .before .before .before .before .before .before .before .before .before .before .before .args in
+    let spelled = c .before .before .before .before .before .before .before .spelled in
+    let number-of = c .before .before .before .before .before .before .number-of in
+    let the-enum-told = c .before .before .before .before .enum-told in
+    let push-leaf2 = c .before .before .push-leaf2 in
+    gives-same
+    (sym (ap (λ (x : Number). numeral x (args .c) (args .rows .now))
+    (sym (ap numberOf (spelled .ensures .0)) ∙ sym (number-of .ensures) ∙ the-enum-told .given .1))) (push-leaf2 .ensures)
 
 returns-3 : tie.Need-returns-3
 unfolding numeral
-returns-3 c = gives-refusal (ap (λ (x : Number). numeral x (c .before .before .before .before .before .before .before .args .c) (c .before .before .before .before .before .before .before .args .rows .now)) (sym (ap numberOf (c .before .before .before .spelled .ensures .0)) ∙ sym (c .before .before .number-of .ensures) ∙ c .enum-told2 .given .1))
+returns-3 c =
+    let args = c .before .before .before .before .before .before .before .args in
+    let spelled = c .before .before .before .spelled in
+    let number-of = c .before .before .number-of in
+    gives-refusal (ap (λ (x : Number). numeral x (args .c) (args .rows .now))
+    (sym (ap numberOf (spelled .ensures .0)) ∙ sym (number-of .ensures) ∙ c .enum-told2 .given .1))
 
 pub numeral-spec : {M : Type 1} → statement M
 numeral-spec =

@@ -25,7 +25,11 @@ same-length : tie.Need-same-length
 same-length c = search needs
 
 returns : tie.Need-returns
-returns c = gives-same (sym (null-is _ _ _ (sym (c .before .before .before .before .before .kind-at .ensures) ∙ c .before .before .before .before .if1 .taken))) (c .before .before .push-over-last .ensures)
+returns c =
+    let kind-at = c .before .before .before .before .before .kind-at in
+    let if1 = c .before .before .before .before .if1 in
+    let push-over-last = c .before .before .push-over-last in
+    gives-same (sym (null-is _ _ _ (sym (kind-at .ensures) ∙ if1 .taken))) (push-over-last .ensures)
 
 need-requires : tie.Need-need-requires
 need-requires c κs = search needs
@@ -37,16 +41,33 @@ enum-told : tie.Need-enum-told
 enum-told c = search needs
 
 returns-2 : tie.Need-returns-2
-returns-2 c = after-refused _ (c .enum-told .given .1) (c .before .before .need .ensures _) (sym (null-not _ _ _ (λ e. c .before .before .before .if1 .left (c .before .before .before .before .kind-at .ensures ∙ e))))
+returns-2 c =
+    let kind-at = c .before .before .before .before .kind-at in
+    let if1 = c .before .before .before .if1 in
+    let need = c .before .before .need in
+    after-refused _ (c .enum-told .given .1) (need .ensures _) (sym (null-not _ _ _ (λ e. if1 .left (kind-at .ensures ∙ e))))
 
 push-over-last-requires-2 : tie.Need-push-over-last-requires-2
-push-over-last-requires-2 c κs = came (c .before .before .s .given .1) (c .before .before .before .before .need .ensures (c .before .before .before .before .before .before .before .before .before .args .rows .now)) (need-writes _ _ _ _ _ (c .before .before .before .before .before .before .before .before .before .pre))
+push-over-last-requires-2 c κs =
+    let start = c .before .before .before .before .before .before .before .before .before in
+    let args = start .args in
+    let pre = start .pre in
+    let need = c .before .before .before .before .need in
+    let s = c .before .before .s in
+    came (s .given .1) (need .ensures (args .rows .now)) (need-writes _ _ _ _ _ pre)
 
 same-length-2 : tie.Need-same-length-2
 same-length-2 c = search needs
 
 returns-3 : tie.Need-returns-3
-returns-3 c = gives-same (sym (after-read _ (c .before .before .before .before .before .s .given .1) (c .before .before .before .before .before .before .before .need .ensures _)) ∙ sym (null-not _ _ _ (λ e. c .before .before .before .before .before .before .before .before .if1 .left (c .before .before .before .before .before .before .before .before .before .kind-at .ensures ∙ e)))) (c .before .before .push-over-last2 .ensures)
+returns-3 c =
+    let kind-at = c .before .before .before .before .before .before .before .before .before .kind-at in
+    let if1 = c .before .before .before .before .before .before .before .before .if1 in
+    let need = c .before .before .before .before .before .before .before .need in
+    let s = c .before .before .before .before .before .s in
+    let push-over-last2 = c .before .before .push-over-last2 in
+    gives-same (sym (after-read _ (s .given .1) (need .ensures _)) ∙ sym (null-not _ _ _ (λ e. if1 .left (kind-at .ensures ∙ e))))
+    (push-over-last2 .ensures)
 
 pub null-or-nan-spec : {M : Type 1} → statement M
 null-or-nan-spec =

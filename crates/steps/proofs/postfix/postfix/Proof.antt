@@ -22,7 +22,11 @@ same-length : tie.Need-same-length
 same-length c = search needs
 
 returns : tie.Need-returns
-returns c = gives-same (sym (postfix-bang _ _ _ (sym (c .before .before .before .before .before .kind-at .ensures) ∙ c .before .before .before .before .if1 .taken))) (c .before .before .push-over-last .ensures)
+returns c =
+    let kind-at = c .before .before .before .before .before .kind-at in
+    let if1 = c .before .before .before .before .if1 in
+    let push-over-last = c .before .before .push-over-last in
+    gives-same (sym (postfix-bang _ _ _ (sym (kind-at .ensures) ∙ if1 .taken))) (push-over-last .ensures)
 
 kind-at-requires-2 : tie.Need-kind-at-requires-2
 kind-at-requires-2 c κs = search needs
@@ -34,7 +38,14 @@ same-length-2 : tie.Need-same-length-2
 same-length-2 c = search needs
 
 returns-2 : tie.Need-returns-2
-returns-2 c = gives-same (sym (postfix-is _ _ _ (λ e. c .before .before .before .before .before .before .if1 .left (c .before .before .before .before .before .before .before .kind-at .ensures ∙ e)) (λ e. c .before .before .before .before .if2 .taken (c .before .before .before .before .before .kind-at2 .ensures ∙ e)))) (c .before .before .null-or-nan .ensures)
+returns-2 c =
+    let kind-at = c .before .before .before .before .before .before .before .kind-at in
+    let if1 = c .before .before .before .before .before .before .if1 in
+    let kind-at2 = c .before .before .before .before .before .kind-at2 in
+    let if2 = c .before .before .before .before .if2 in
+    let null-or-nan = c .before .before .null-or-nan in
+    gives-same (sym (postfix-is _ _ _ (λ e. if1 .left (kind-at .ensures ∙ e)) (λ e. if2 .taken (kind-at2 .ensures ∙ e))))
+    (null-or-nan .ensures)
 
 add-last : tie.Need-add-last
 add-last c = search needs
@@ -52,16 +63,39 @@ same-length-3 : tie.Need-same-length-3
 same-length-3 c = search needs
 
 returns-3 : tie.Need-returns-3
-returns-3 c = after-refused _ (c .enum-told .given .1) (c .before .before .before .before .null-or-nan2 .ensures) (sym (postfix-is-not _ _ _ (λ e. c .before .before .before .before .before .before .before .before .if1 .left (c .before .before .before .before .before .before .before .before .before .kind-at .ensures ∙ e)) (sym (c .before .before .before .before .before .before .before .kind-at2 .ensures) ∙ c .before .before .before .before .before .before .if2 .left)))
+returns-3 c =
+    let kind-at = c .before .before .before .before .before .before .before .before .before .kind-at in
+    let if1 = c .before .before .before .before .before .before .before .before .if1 in
+    let kind-at2 = c .before .before .before .before .before .before .before .kind-at2 in
+    let if2 = c .before .before .before .before .before .before .if2 in
+    let null-or-nan2 = c .before .before .before .before .null-or-nan2 in
+    after-refused _ (c .enum-told .given .1) (null-or-nan2 .ensures)
+    (sym (postfix-is-not _ _ _ (λ e. if1 .left (kind-at .ensures ∙ e)) (sym (kind-at2 .ensures) ∙ if2 .left)))
 
 push-over-last-requires-2 : tie.Need-push-over-last-requires-2
-push-over-last-requires-2 c κs = came (c .before .before .s .given .1) (c .before .before .before .before .before .before .null-or-nan2 .ensures) (null-writes _ _ _ (c .before .before .before .before .before .before .before .before .before .before .before .before .before .before .pre .1))
+push-over-last-requires-2 c κs =
+    let at-null-or-nan2 = c .before .before .before .before .before .before in
+    let pre = at-null-or-nan2 .before .before .before .before .before .before .before .before .pre in
+    let null-or-nan2 = at-null-or-nan2 .null-or-nan2 in
+    let s = c .before .before .s in
+    came (s .given .1) (null-or-nan2 .ensures) (null-writes _ _ _ (pre .1))
 
 same-length-4 : tie.Need-same-length-4
 same-length-4 c = search needs
 
 returns-4 : tie.Need-returns-4
-returns-4 c = gives-same (sym (after-read _ (c .before .before .before .before .before .s .given .1) (c .before .before .before .before .before .before .before .before .before .null-or-nan2 .ensures)) ∙ sym (postfix-is-not _ _ _ (λ e. c .before .before .before .before .before .before .before .before .before .before .before .before .before .if1 .left (c .before .before .before .before .before .before .before .before .before .before .before .before .before .before .kind-at .ensures ∙ e)) (sym (c .before .before .before .before .before .before .before .before .before .before .before .before .kind-at2 .ensures) ∙ c .before .before .before .before .before .before .before .before .before .before .before .if2 .left))) (c .before .before .push-over-last2 .ensures)
+returns-4 c =
+    let at-kind-at2 = c .before .before .before .before .before .before .before .before .before .before .before .before in
+    let kind-at = at-kind-at2 .before .before .kind-at in
+    let if1 = at-kind-at2 .before .if1 in
+    let kind-at2 = at-kind-at2 .kind-at2 in
+    let if2 = c .before .before .before .before .before .before .before .before .before .before .before .if2 in
+    let null-or-nan2 = c .before .before .before .before .before .before .before .before .before .null-or-nan2 in
+    let s = c .before .before .before .before .before .s in
+    let push-over-last2 = c .before .before .push-over-last2 in
+    gives-same
+    (sym (after-read _ (s .given .1) (null-or-nan2 .ensures))
+    ∙ sym (postfix-is-not _ _ _ (λ e. if1 .left (kind-at .ensures ∙ e)) (sym (kind-at2 .ensures) ∙ if2 .left))) (push-over-last2 .ensures)
 
 pub postfix-spec : {M : Type 1} → statement M
 postfix-spec =

@@ -17,7 +17,10 @@ binds-requires : tie.Need-binds-requires
 binds-requires c κs = search needs
 
 returns : tie.Need-returns
-returns c = c .binds .ensures ∙ ap (λ (p : ℕ). binds p (c .before .before .before .before .args .min)) (c .before .postfix-precedence .ensures ∙ ap postfixOf (c .before .before .kind-at .ensures))
+returns c =
+    let args = c .before .before .before .before .args in
+    let kind-at = c .before .before .kind-at in
+    c .binds .ensures ∙ ap (λ (p : ℕ). binds p (args .min)) (c .before .postfix-precedence .ensures ∙ ap postfixOf (kind-at .ensures))
 
 pub postfix-at-spec : {M : Type 1} → statement M
 postfix-at-spec = tie.close (tie.spec kind-at-requires postfix-precedence-requires binds-requires returns)

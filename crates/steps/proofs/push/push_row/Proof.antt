@@ -25,7 +25,11 @@ same-length-2 : tie.Need-same-length-2
 same-length-2 c = search needs
 
 returns-2 : tie.Need-returns-2
-returns-2 c = rw (c .before .before .write-row .ensures) (gives-read (push-room _ _ _ (rw (c .before .before .before .before .before .capacity .ensures) at (c .before .before .before .before .if1 .left))))
+returns-2 c =
+    let capacity = c .before .before .before .before .before .capacity in
+    let if1 = c .before .before .before .before .if1 in
+    let write-row = c .before .before .write-row in
+    rw (write-row .ensures) (gives-read (push-room _ _ _ (rw (capacity .ensures) at (if1 .left))))
 
 pub push-row-spec : {M : Type 1} → statement M
 push-row-spec =
