@@ -61,7 +61,8 @@ module _ (text ts t : List ℕ) (levels : ℕ) where
   unfolding parsing parsingOut
   parsing-laid = by (checkTable text ts)
     where
-      by : (k : Checked) → Laid (capacity t) t 0 (outAfterCheck k (wholeExpression text ts levels t)) (afterCheck k (T.wholeExpression text ts (capacity t) levels))
+      by : (k : Checked) → Laid (capacity t) t 0 (outAfterCheck k (wholeExpression text ts levels t))
+          (afterCheck k (T.wholeExpression text ts (capacity t) levels))
       by (table.Good n) = wholeExpression-laid text ts (capacity t) levels t refl
       by (table.Refused why at) = refusal-laid (capacity t)
 

@@ -123,7 +123,8 @@ module _ (text ts : List ℕ) (n : ℕ) (t : Token) (is : t ≡ tokenAt ts n) wh
   span-none e = sym (span-off text t e) ∙ ap (spanOf text) is
 
 -- and those bytes, as the part of the text from there
-pub part-there : (text ts : List ℕ) (n : ℕ) (s : Span) → s ≡ spanAt text ts n → take (s .start + s .length - s .start) (drop (s .start) text) ≡ spelled text ts n
+pub part-there : (text ts : List ℕ) (n : ℕ) (s : Span) →
+    s ≡ spanAt text ts n → take (s .start + s .length - s .start) (drop (s .start) text) ≡ spelled text ts n
 unfolding spelled
 part-there text ts n s e = rw (add-sub-cancel-left (s .start) (s .length), e)
 

@@ -28,7 +28,8 @@ returns-2 : tie.Need-returns-2
 unfolding lookedUpNumbers
 returns-2 c =
     let lookup = c .before .before .before .before .lookup in
-    record { answer = lookup .result; looks = lookup .ensures; numbers = rw (c .number-of .ensures) (sym (ap lookedUpNumbers (c .before .before .looked2 .given .1))) }
+    let of-answer = sym (ap lookedUpNumbers (c .before .before .looked2 .given .1)) in
+    record { answer = lookup .result; looks = lookup .ensures; numbers = rw (c .number-of .ensures) of-answer }
 
 pub fontrisc-lookup-spec : {M : Type 1} → statement M
 fontrisc-lookup-spec =

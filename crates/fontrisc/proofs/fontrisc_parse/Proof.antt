@@ -34,7 +34,8 @@ returns-2 : tie.Need-returns-2
 unfolding parseNumbers
 returns-2 c =
     let parse = c .before .before .before .before .before .before .parse in
-    record { answer = parse .result; parses = parse .ensures; numbers = rw (c .number-of .ensures) (sym (ap parseNumbers (c .before .before .parsed2 .given .1))) }
+    let of-answer = sym (ap parseNumbers (c .before .before .parsed2 .given .1)) in
+    record { answer = parse .result; parses = parse .ensures; numbers = rw (c .number-of .ensures) of-answer }
 
 pub fontrisc-parse-spec : {M : Type 1} → statement M
 fontrisc-parse-spec =

@@ -40,7 +40,8 @@ returns-2 : tie.Need-returns-2
 unfolding splitNumbers
 returns-2 c =
     let split = c .before .before .before .before .before .before .before .before .split in
-    record { answer = split .result; splits = split .ensures; numbers = rw (c .number-of .ensures) (sym (ap splitNumbers (c .before .before .listed2 .given .1))) }
+    let of-answer = sym (ap splitNumbers (c .before .before .listed2 .given .1)) in
+    record { answer = split .result; splits = split .ensures; numbers = rw (c .number-of .ensures) of-answer }
 
 pub fontrisc-split-spec : {M : Type 1} → statement M
 fontrisc-split-spec =

@@ -35,7 +35,8 @@ returns-2 : tie.Need-returns-2
 unfolding foundNumbers
 returns-2 c =
     let value-at = c .before .before .before .before .value-at in
-    record { answer = value-at .result; finds = value-at .ensures; numbers = rw (c .number-of .ensures) (sym (ap foundNumbers (c .before .before .found2 .given .1))) }
+    let of-answer = sym (ap foundNumbers (c .before .before .found2 .given .1)) in
+    record { answer = value-at .result; finds = value-at .ensures; numbers = rw (c .number-of .ensures) of-answer }
 
 pub fontrisc-value-spec : {M : Type 1} → statement M
 fontrisc-value-spec =
