@@ -10,7 +10,7 @@ use native.Mathlib.Omega.{arith}
 use lib.ListN.{length, take, drop, length-append, length-map}
 use lib.Dec.{eqb}
 use lib.Seq.{take-at, drop-at}
-use Rattle.predicate.specs.Tree.{Tree, leaf, unary, binary, both, either, negate, rootOf}
+use Rattle.predicate.specs.Tree.{Tree, leaf, unary, binary, both, either, negation, rootOf}
 use Rattle.cnf.specs.Clause.{Literal, literal, cross, join, clauses, literalNumber, literalNumbers, endsFrom}
 use Rattle.cnf.specs.Kleene.{Value, FALSE, NULL, TRUE, AND, OR, NOT, negateIf, value, AtomOf, readBack, literalRow, isNegated, anyOf, allOf}
 use Rattle.cnf.specs.Kleene.{EachIn, Each, Means}
@@ -160,8 +160,8 @@ module _ (ρ : ℕ → Value) where
   split-value false (either r l a b) = all-cross (clauses false a) (clauses false b) ∙ ap₂ OR (split-value false a) (split-value false b)
   split-value true (either r l a b) =
       all-append (clauses true a) (clauses true b) ∙ ap₂ AND (split-value true a) (split-value true b) ∙ sym (NOT-OR (value ρ a) (value ρ b))
-  split-value false (negate r l a) = split-value true a
-  split-value true (negate r l a) = split-value false a ∙ sym (NOT-NOT (value ρ a))
+  split-value false (negation r l a) = split-value true a
+  split-value true (negation r l a) = split-value false a ∙ sym (NOT-NOT (value ρ a))
 
 -- ---- the literals
 
@@ -201,7 +201,7 @@ module _ (P : ℕ → Type 0) where
   each-atom g (binary r l a b) h = each-one g (binary r l a b) (h r refl)
   each-atom g (both r l a b) h = each-join g (clauses g a) (clauses g b) (each-atom g a (λ q i. h q (inl i))) (each-atom g b (λ q i. h q (inr i)))
   each-atom g (either r l a b) h = each-join (not g) (clauses g a) (clauses g b) (each-atom g a (λ q i. h q (inl i))) (each-atom g b (λ q i. h q (inr i)))
-  each-atom g (negate r l a) h = each-atom (not g) a h
+  each-atom g (negation r l a) h = each-atom (not g) a h
 
 pub split-atoms : (g : Bool) (t : Tree) → Each (λ q. AtomOf q t) (numbered (clauses g t))
 split-atoms g t = each-atom (λ q. AtomOf q t) g t (λ q i. i)

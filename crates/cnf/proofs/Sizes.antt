@@ -11,7 +11,7 @@ use lib.ListN.{length, length-append, length-map}
 use lib.Dec.{leb}
 use borrow.Author.Tests.{lt-leb, leb-true, leb-false}
 use Rattle.limits.specs.Limits.{clausesMax, literalsMax}
-use Rattle.predicate.specs.Tree.{Tree, leaf, unary, binary, both, either, negate}
+use Rattle.predicate.specs.Tree.{Tree, leaf, unary, binary, both, either, negation}
 use Rattle.cnf.specs.Clause.{Literal, cross, join, clauses, total}
 use Rattle.cnf.specs.Size.{pick, withinLimits, sizeOf, joinSizes, Limited}
 use Rattle.cnf.specs.declared.Size.{Size}
@@ -168,7 +168,7 @@ clauses-some g (unary r l a) = omega arith
 clauses-some g (binary r l a b) = omega arith
 clauses-some g (both r l a b) = join-some g (clauses g a) (clauses g b) (clauses-some g a) (clauses-some g b)
 clauses-some g (either r l a b) = join-some (not g) (clauses g a) (clauses g b) (clauses-some g a) (clauses-some g b)
-clauses-some g (negate r l a) = clauses-some (not g) a
+clauses-some g (negation r l a) = clauses-some (not g) a
 
 pub size-join : (o : Bool) (xs ys : List (List Literal)) → 0 < length xs → 0 < length ys → joinSizes o (sizeOf xs) (sizeOf ys) ≡ sizeOf (join o xs ys)
 unfolding sizeOf

@@ -3,7 +3,7 @@ use Prim.Native.Nat.{ℕ, _+_, _*_}
 use mathlib.Core.Bool.{Bool, true, false, not}
 use mathlib.Core.List.{List, [], _∷_, _++_, map}
 use lib.ListN.{length}
-use Rattle.predicate.specs.Tree.{Tree, leaf, unary, binary, both, either, negate, rootOf}
+use Rattle.predicate.specs.Tree.{Tree, leaf, unary, binary, both, either, negation, rootOf}
 
 -- a literal: an atom, negated (true) or not
 pub data Literal : Type 0 where
@@ -27,7 +27,7 @@ clauses negated (unary r l a) = (literal negated (unary r l a) ∷ []) ∷ []
 clauses negated (binary r l a b) = (literal negated (binary r l a b) ∷ []) ∷ []
 clauses negated (both r l a b) = join negated (clauses negated a) (clauses negated b)
 clauses negated (either r l a b) = join (not negated) (clauses negated a) (clauses negated b)
-clauses negated (negate r l a) = clauses (not negated) a
+clauses negated (negation r l a) = clauses (not negated) a
 
 -- how many literals all clauses have
 abbrev pub total : List (List Literal) → ℕ

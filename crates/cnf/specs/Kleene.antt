@@ -6,7 +6,7 @@ use mathlib.Core.Logic.{_⊎_}
 use mathlib.Core.List.{List, [], _∷_}
 use lib.ListN.{take, drop}
 use lib.Dec.{eqb}
-use Rattle.predicate.specs.Tree.{Tree, leaf, unary, binary, both, either, negate}
+use Rattle.predicate.specs.Tree.{Tree, leaf, unary, binary, both, either, negation}
 
 pub data Value : Type 0 where
   FALSE NULL TRUE : Value
@@ -46,7 +46,7 @@ value ρ (unary r l a) = ρ r
 value ρ (binary r l a b) = ρ r
 value ρ (both r l a b) = AND (value ρ a) (value ρ b)
 value ρ (either r l a b) = OR (value ρ a) (value ρ b)
-value ρ (negate r l a) = NOT (value ρ a)
+value ρ (negation r l a) = NOT (value ρ a)
 
 -- row q is one of its atoms: no AND, OR or NOT, and not inside another atom
 unfoldable pub AtomOf : ℕ → Tree → Type 0
@@ -55,7 +55,7 @@ AtomOf q (unary r l a) = q ≡ r
 AtomOf q (binary r l a b) = q ≡ r
 AtomOf q (both r l a b) = AtomOf q a ⊎ AtomOf q b
 AtomOf q (either r l a b) = AtomOf q a ⊎ AtomOf q b
-AtomOf q (negate r l a) = AtomOf q a
+AtomOf q (negation r l a) = AtomOf q a
 
 -- ---- clauses, as a caller reads them
 

@@ -6,7 +6,7 @@ use lib.Dec.{leb, eqb}
 use lib.Ieee.{nan}
 use Rattle.rows.specs.Label.{Label, label}
 use Rattle.predicate.specs.Kind as kind
-use Rattle.predicate.specs.Tree.{Tree, leaf, unary, binary, both, either, negate}
+use Rattle.predicate.specs.Tree.{Tree, leaf, unary, binary, both, either, negation}
 use Rattle.cnf.specs.Clause.{Literal, literal}
 use Rattle.values.specs.Value.{constantOfLabel, valueOf, isUndefined}
 use Rattle.values.specs.declared.Value.{Value}
@@ -27,7 +27,7 @@ leafOf (unary r l a) = noLabel
 leafOf (binary r l a b) = noLabel
 leafOf (both r l a b) = noLabel
 leafOf (either r l a b) = noLabel
-leafOf (negate r l a) = noLabel
+leafOf (negation r l a) = noLabel
 
 unfoldable pub isColumn : Label → Bool
 isColumn l = eqb (l .kind) kind.column
@@ -53,7 +53,7 @@ testOf (unary r l a) = elim (eqb (l .kind) kind.is) [ true ↦ isTest (leafOf a)
 testOf (binary r l a b) = elim (eqb (l .kind) kind.equal) [ true ↦ equalTest (leafOf a) (leafOf b) | false ↦ Other ]
 testOf (both r l a b) = Other
 testOf (either r l a b) = Other
-testOf (negate r l a) = Other
+testOf (negation r l a) = Other
 
 -- a literal tests a column only where it is not negated
 unfoldable pub literalTest : Literal → Test

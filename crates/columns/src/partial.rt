@@ -78,7 +78,7 @@ fn from_first(wanted: usize, test: Test) -> PartialLookup
     }
 }
 
-// Is it a test of this column?
+// Tells if it is a test of this column.
 fn tests_column(column: usize, test: Test) -> bool
     ensures { λ r. ⌜ r ≡ testsColumn column test ⌝ }
 {

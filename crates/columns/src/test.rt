@@ -37,7 +37,7 @@ fn is_constant(leaf: Row) -> bool
     }
 }
 
-// Is it a row with no operands?
+// Tells if a row has no operands.
 fn is_leaf(shape: Shape) -> bool
     ensures { λ r. ⌜ r ≡ isLeaf shape ⌝ }
 {

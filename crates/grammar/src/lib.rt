@@ -1,4 +1,4 @@
-// The reading rules, as definitions and laws; and how far a reading has come, which the functions that keep to the rules answer.
+// The reading rules, as definitions and laws; and the types that `steps` and `reader` answer with.
 //
 // specs/ has the rules; docs/FORMAT.md has them in words.
 use refusals::Refusal;

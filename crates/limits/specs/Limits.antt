@@ -14,8 +14,12 @@ abbrev pub rowsMax : ℕ
 rowsMax = 2_048
 
 -- levels of a reading
-abbrev pub levelMax : ℕ
-levelMax = 64
+abbrev pub levelsMax : ℕ
+levelsMax = 64
+
+-- the value of an Integer that is read
+abbrev pub integerMax : ℕ
+integerMax = 9_223_372_036_854_775_807
 
 -- the number of a column
 abbrev pub columnMax : ℕ

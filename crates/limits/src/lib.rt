@@ -12,6 +12,9 @@ pub const ROWS_MAX: usize = 2048;
 // Levels of a reading.
 pub const LEVELS_MAX: usize = 64;
 
+// The value of an Integer that is read.
+pub const INTEGER_MAX: u64 = 9223372036854775807;
+
 // The number of a column.
 pub const COLUMN_MAX: u64 = 65535;
 

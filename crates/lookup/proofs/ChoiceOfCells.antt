@@ -11,7 +11,7 @@ use lib.ListN.{getD}
 use Rattle.rows.specs.Layout.{rowAt}
 use Rattle.rows.specs.declared.Row.{Row}
 use Rattle.predicate.specs.Row.{shapeAt, arityOf, operandsOf}
-use Rattle.predicate.specs.Tree.{Tree, leaf, unary, binary, both, either, negate, rootOf, nodeOf, treeAt, Falls, Sound}
+use Rattle.predicate.specs.Tree.{Tree, leaf, unary, binary, both, either, negation, rootOf, nodeOf, treeAt, Falls, Sound}
 use Rattle.predicate.specs.declared.Shape.{Shape}
 use Rattle.predicate.specs.declared.Shape.the-variants as shape
 use Rattle.predicate.specs.Read.{one, readRows}
@@ -31,7 +31,7 @@ module _ (text : List ℕ) (world : World) (ρ : ℕ → kleene.Value) where
   Agrees (binary r l a b) = ρ r ≡ predicateValue text world (binary r l a b)
   Agrees (both r l a b) = Agrees a × Agrees b
   Agrees (either r l a b) = Agrees a × Agrees b
-  Agrees (negate r l a) = Agrees a
+  Agrees (negation r l a) = Agrees a
 
   agrees-value : (t : Tree) → Agrees t → kleene.value ρ t ≡ predicateValue text world t
   unfolding Agrees kleene.value predicateValue
@@ -40,7 +40,7 @@ module _ (text : List ℕ) (world : World) (ρ : ℕ → kleene.Value) where
   agrees-value (binary r l a b) h = h
   agrees-value (both r l a b) h = ap₂ kleene.AND (agrees-value a (h .0)) (agrees-value b (h .1))
   agrees-value (either r l a b) h = ap₂ kleene.OR (agrees-value a (h .0)) (agrees-value b (h .1))
-  agrees-value (negate r l a) h = ap kleene.NOT (agrees-value a h)
+  agrees-value (negation r l a) h = ap kleene.NOT (agrees-value a h)
 
   -- a clause has the same value either way
   abbrev Same : List (List Literal) → Type 0
@@ -85,7 +85,7 @@ module _ (text : List ℕ) (world : World) (ρ : ℕ → kleene.Value) where
   same-clauses g (binary r l a b) h = same-one g (binary r l a b) h
   same-clauses g (both r l a b) h = same-join g (clauses g a) (clauses g b) (same-clauses g a (h .0)) (same-clauses g b (h .1))
   same-clauses g (either r l a b) h = same-join (not g) (clauses g a) (clauses g b) (same-clauses g a (h .0)) (same-clauses g b (h .1))
-  same-clauses g (negate r l a) h = same-clauses (not g) a h
+  same-clauses g (negation r l a) h = same-clauses (not g) a h
 
   same-at : (cs : List (List Literal)) (k : ℕ) → Same cs → kleene.anyOf ρ (map literalNumber (getD cs k [])) ≡ clauseValue text world (getD cs k [])
   unfolding kleene.anyOf clauseValue

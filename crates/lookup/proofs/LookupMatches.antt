@@ -10,7 +10,7 @@ use borrow.Author.Tests.{eqb-true}
 use lib.Dec.{eqb, leb}
 use lib.Ieee.{Float, nan, inf, fin, eq, isNan}
 use Rattle.predicate.specs.Kind as kind
-use Rattle.predicate.specs.Tree.{Tree, leaf, unary, binary, both, either, negate}
+use Rattle.predicate.specs.Tree.{Tree, leaf, unary, binary, both, either, negation}
 use Rattle.cnf.specs.Kleene as kleene
 use Rattle.cnf.specs.Clause.{Literal, literal}
 use Rattle.values.specs.Value.{constantOfLabel, valueOf, isUndefined}
@@ -95,7 +95,7 @@ module _ (text : List ℕ) (world : World) where
   column-cell (binary r l a b) e = false-true e
   column-cell (both r l a b) e = false-true e
   column-cell (either r l a b) e = false-true e
-  column-cell (negate r l a) e = false-true e
+  column-cell (negation r l a) e = false-true e
 
   constant-cell : (t : Tree) → isConstant (leafOf t) ≡ true → cellIn text world t ≡ cellOf text (valueOf (constantOfLabel (leafOf t)))
   unfolding cellIn leafOf isConstant isColumn
@@ -104,7 +104,7 @@ module _ (text : List ℕ) (world : World) where
   constant-cell (binary r l a b) e = false-true e
   constant-cell (both r l a b) e = false-true e
   constant-cell (either r l a b) e = false-true e
-  constant-cell (negate r l a) e = false-true e
+  constant-cell (negation r l a) e = false-true e
 
   module _ (c : ℕ) where
     equal-value : (a b : Tree) → testsColumn c (equalTest (leafOf a) (leafOf b)) ≡ true →
@@ -160,7 +160,7 @@ module _ (text : List ℕ) (world : World) where
         by false h = false-true h
     atom-test (both r l a b) e = false-true e
     atom-test (either r l a b) e = false-true e
-    atom-test (negate r l a) e = false-true e
+    atom-test (negation r l a) e = false-true e
 
     literal-test : (l : Literal) → testsColumn c (literalTest l) ≡ true → literalValue text world l ≡ testValue text (world .column c) (literalTest l)
     unfolding literalTest literalValue testsColumn

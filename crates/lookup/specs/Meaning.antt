@@ -4,7 +4,7 @@ use mathlib.Core.Bool.{Bool, true, false, _||_}
 use mathlib.Core.List.{List, [], _∷_}
 use lib.Dec.{eqb}
 use Rattle.predicate.specs.Kind as kind
-use Rattle.predicate.specs.Tree.{Tree, leaf, unary, binary, both, either, negate}
+use Rattle.predicate.specs.Tree.{Tree, leaf, unary, binary, both, either, negation}
 use Rattle.cnf.specs.Kleene as kleene
 use Rattle.cnf.specs.Clause.{Literal, literal}
 use Rattle.values.specs.Value.{constantOfLabel, valueOf}
@@ -25,7 +25,7 @@ cellIn text world (unary r l a) = world .computed r
 cellIn text world (binary r l a b) = world .computed r
 cellIn text world (both r l a b) = world .computed r
 cellIn text world (either r l a b) = world .computed r
-cellIn text world (negate r l a) = world .computed r
+cellIn text world (negation r l a) = world .computed r
 
 -- a predicate's value: Equal and Is by the rules of cells, AND, OR and NOT by Kleene's
 unfoldable pub predicateValue : List ℕ → World → Tree → kleene.Value
@@ -35,7 +35,7 @@ predicateValue text world (binary r l a b) =
     elim (eqb (l .kind) kind.equal) [ true ↦ equal (cellIn text world a) (cellIn text world b) | false ↦ world .other r ]
 predicateValue text world (both r l a b) = kleene.AND (predicateValue text world a) (predicateValue text world b)
 predicateValue text world (either r l a b) = kleene.OR (predicateValue text world a) (predicateValue text world b)
-predicateValue text world (negate r l a) = kleene.NOT (predicateValue text world a)
+predicateValue text world (negation r l a) = kleene.NOT (predicateValue text world a)
 
 -- a literal's: its atom's, negated or not
 unfoldable pub literalValue : List ℕ → World → Literal → kleene.Value

@@ -45,7 +45,7 @@ pub enum ClauseAnswer {
     Refused(Refusal, usize),
 }
 
-// The most rows for which the small table of counts does: clearing the large one costs more than most predicates.
+// The most rows for which the small table of counts suffices: clearing the large one costs more than most predicates.
 const FEW_ROWS: usize = 64;
 
 // Two places for each row.
@@ -76,7 +76,7 @@ fn clause_lookup_with(
     )
 }
 
-// The same, with a table that is large enough.
+// Answers the same by a table of its own, large enough for the rows.
 fn clause_lookup(rows: &[u64], root: usize, clause: usize, wanted: usize) -> PartialLookup
     requires { ⌜ HasClause (now rows) root clause ⌝ }
     ensures { λ p. ⌜ p ≡ withClause (now (rows .entry)) root false clause wanted PartialLookup.Empty ⌝ }
@@ -124,11 +124,11 @@ fn lookup_of(text: &[u8], rows: &[u64], clause: usize, wanted: usize) -> ClauseA
     let checked = predicate::check(text, rows);
     match checked {
         Checked::Refused(why, place) => ClauseAnswer::Refused(why, place),
-        Checked::Good(root) => lookup_at(rows, root, clause, wanted),
+        Checked::Root(root) => lookup_at(rows, root, clause, wanted),
     }
 }
 
-// Is a clause a lookup? On which column, and with how many values?
+// Answers on which column a clause is a lookup, and with how many values.
 pub fn lookup(text: &[u8], rows: &[u64], clause: usize) -> LookedUp
     ensures { λ v. ⌜ LooksUp (now (text .entry)) (now (rows .entry)) clause v ⌝ }
 {

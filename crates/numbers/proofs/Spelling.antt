@@ -10,7 +10,8 @@ use borrow.Author.Tests.{lt-ltb, le-ltb, leb-true, leb-false, eq-eqb, ne-eqb, eq
 use lib.Dec.{leb, ltb, eqb}
 use lib.ListN.{length, getD, drop, length-drop, drop-of-length-le}
 use lib.Seq.{drop-cons}
-use Rattle.numbers.specs.Number.{integerMax, digit, begins, ended, pastDigits, digits, pastFraction, pastSign, exponent, valueFrom, integerOf, numberOf}
+use Rattle.limits.specs.Limits.{integerMax}
+use Rattle.numbers.specs.Number.{digit, begins, ended, pastDigits, digits, pastFraction, pastSign, exponent, valueFrom, integerOf, numberOf}
 use Rattle.numbers.specs.Run.{held, leading, Past, Digits, DigitsOnly}
 use Rattle.numbers.specs.declared.Run.{Run}
 use Rattle.numbers.specs.declared.Number.{Number}

@@ -3,12 +3,9 @@ use Prim.Native.Nat.{ℕ, _+_, _-_, _*_}
 use mathlib.Core.Bool.{Bool, true, false, _&&_, _||_}
 use mathlib.Core.List.{List, [], _∷_}
 use lib.Dec.{leb, eqb}
+use Rattle.limits.specs.Limits.{integerMax}
 use Rattle.numbers.specs.declared.Number.{Number}
 use Rattle.numbers.specs.declared.Number.the-variants.{Integer, Float, Neither}
-
--- the largest Integer
-abbrev pub integerMax : ℕ
-integerMax = 9_223_372_036_854_775_807
 
 -- 0 to 9
 unfoldable pub digit : ℕ → Bool

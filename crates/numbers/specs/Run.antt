@@ -1,9 +1,10 @@
 -- What the parts of the number rule's code promise each other, by places in the spelling. No entry's promise names this file.
 use mathlib.Core.Path.{_≡_}
-use Prim.Native.Nat.{ℕ, _≤_, min}
+use Prim.Native.Nat.{ℕ, _+_, _≤_, min}
 use mathlib.Core.Bool.{true, false}
 use mathlib.Core.List.{List, [], _∷_}
 use lib.ListN.{length, drop}
+use Rattle.limits.specs.Limits.{integerMax}
 use Rattle.numbers.specs.Number.{digit, pastDigits, valueFrom, numberOf}
 use Rattle.numbers.specs.declared.Number.{Number}
 use Rattle.numbers.specs.declared.Number.the-variants.{Integer}
@@ -11,7 +12,7 @@ use Rattle.numbers.specs.declared.Run.{Run}
 
 -- where a value past the largest Integer is held
 abbrev pub held : ℕ
-held = 9_223_372_036_854_775_808
+held = integerMax + 1
 
 -- the digits that s begins with
 unfoldable pub leading : List ℕ → List ℕ

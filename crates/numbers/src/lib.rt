@@ -1,13 +1,11 @@
 // Which spellings are numbers, in one pass over the bytes.
 // docs/FORMAT.md has the rule; specs/ has it as a definition.
+use limits::INTEGER_MAX;
 ghost use mathlib.Core.Path.{_≡_};
 ghost use Prim.Native.Nat.{_+_, _-_, _*_, _≤_, min};
 ghost use lib.ListN.{length, drop};
 ghost use Rattle.numbers.specs.Number.{digit as digitOf, digits as digitsOf, pastFraction, pastSign, exponent, integerOf, numberOf};
 ghost use Rattle.numbers.specs.Run.{held, Digits, Past, DigitsOnly};
-
-// The largest Integer, 2^63 - 1.
-const INTEGER_MAX: u64 = 9223372036854775807;
 
 // What a spelling is.
 pub enum Number {

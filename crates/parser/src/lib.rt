@@ -6,7 +6,7 @@ use limits::LEVELS_MAX;
 use refusals::Refusal;
 use tokens::table;
 use tokens::table::Checked;
-ghost use Rattle.limits.specs.Limits.{levelMax};
+ghost use Rattle.limits.specs.Limits.{levelsMax};
 ghost use Rattle.grammar.specs.Memory.{Gives, wholeExpression};
 ghost use Rattle.parser.specs.Inner.{parsingOut, RefusedAndCleared};
 ghost use Rattle.parser.specs.Promise.{Parses};
@@ -33,7 +33,7 @@ fn whole_expression(text: &[u8], tokens: &[u32], rows: &mut [u64], levels: usize
     Step::Read(c)
 }
 
-// Reads them so where their table is good.
+// Reads all tokens as one expression, if their table is good.
 fn checked_expression(text: &[u8], tokens: &[u32], rows: &mut [u64], levels: usize) -> Step
     ensures { λ r. ⌜ Gives (parsingOut (now (text .entry)) (now (tokens .entry)) levels (now (rows .entry))) r (now (rows .exit)) ⌝ }
 {
@@ -61,9 +61,9 @@ pub fn parse_within(text: &[u8], tokens: &[u32], rows: &mut [u64], levels: usize
     }
 }
 
-// Reads them with the levels that every expression may have.
+// Reads them with the most levels that an expression may have.
 pub fn parse(text: &[u8], tokens: &[u32], rows: &mut [u64]) -> Parsed
-    ensures { λ r. ⌜ Parses levelMax (now (text .entry)) (now (tokens .entry)) (now (rows .entry)) r (now (rows .exit)) ⌝ }
+    ensures { λ r. ⌜ Parses levelsMax (now (text .entry)) (now (tokens .entry)) (now (rows .entry)) r (now (rows .exit)) ⌝ }
 {
     parse_within(text, tokens, rows, LEVELS_MAX)
 }

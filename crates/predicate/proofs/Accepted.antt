@@ -19,7 +19,7 @@ use Rattle.predicate.specs.Tree.{Tree, rootOf, treeAt, firstAt, Falls, S
 use Rattle.predicate.specs.Read.{Reading, one, refused, ended, andThen, readFrom, readRows, checkedOf, Rooted, Checks}
 use Rattle.predicate.specs.Check.{SoundBefore, goodAt}
 use Rattle.predicate.specs.declared.Checked.{Checked}
-use Rattle.predicate.specs.declared.Checked.the-variants.{Good, Refused}
+use Rattle.predicate.specs.declared.Checked.the-variants.{Root, Refused}
 use Rattle.predicate.proofs.Trees.{root-at}
 use Rattle.predicate.proofs.Stacks.{Tiles, step-is}
 use Rattle.predicate.proofs.CheckLoop.{by-tests}
@@ -139,7 +139,7 @@ module _ (text l : List ℕ) where
   unfolding checkedOf
   checks {v} e = record { answer = e; good = λ root d. good (readRows text l) root refl (sym e ∙ d); bad = λ why place d. bad (readRows text l) (sym e ∙ d) }
     where
-      good : (r : Reading) (root : ℕ) → readRows text l ≡ r → checkedOf r ≡ Good root → Rooted text l root
+      good : (r : Reading) (root : ℕ) → readRows text l ≡ r → checkedOf r ≡ Root root → Rooted text l root
       good (one t) root f d = let same : rootOf t ≡ root = cc in subst (Rooted text l) same (rooted t f)
       good (refused why place) root f d = let z : _≡_ {A = ℕ} 0 1 = cc in absurd (omega arith)
 

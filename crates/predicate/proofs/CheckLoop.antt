@@ -18,7 +18,7 @@ use Rattle.predicate.specs.Row.{shapeAt, arityOf}
 use Rattle.predicate.specs.Tree.{Tree, treeAt, firstAt, Falls, Sound}
 use Rattle.predicate.specs.Read.{Reading, one, refused, stepAt, ended, andThen, readFrom, readRows, checkedOf}
 use Rattle.predicate.specs.Check.{SoundBefore, goodAt}
-use Rattle.predicate.specs.declared.Checked.the-variants.{Good, Refused}
+use Rattle.predicate.specs.declared.Checked.the-variants.{Root, Refused}
 use Rattle.predicate.proofs.Trees.{root-at}
 use Rattle.predicate.proofs.Stacks.{Tiles, step-is}
 
@@ -77,9 +77,9 @@ module _ {text l : List ℕ} {r : ℕ} (last : ℕ) (p : Reads text l r) (h : ro
   unfolding readFrom
   is-all = p .rest 0 (omega (arith, p .within))
 
-  pub one-root : firstAt l last ≡ 0 → Good last ≡ checkedOf (readFrom text l (rowCount l) 0 [])
+  pub one-root : firstAt l last ≡ 0 → Root last ≡ checkedOf (readFrom text l (rowCount l) 0 [])
   unfolding checkedOf ended
-  one-root z = ap Good (sym (root-at l last)) ∙ ap checkedOf (go (p .stack) (p .tiles)) ∙ ap checkedOf is-all
+  one-root z = ap Root (sym (root-at l last)) ∙ ap checkedOf (go (p .stack) (p .tiles)) ∙ ap checkedOf is-all
     where
       go : (s : List (Subtree Tree)) → Tiles l r s → one (treeAt l last) ≡ ended r s
       go [] t = absurd (omega arith)

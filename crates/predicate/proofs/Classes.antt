@@ -9,7 +9,7 @@ use native.Mathlib.Decide.{decLe}
 use native.Mathlib.Omega.{arith}
 use lib.Dec.{leb}
 use borrow.Author.Tests.{ne-eqb, le-leb, lt-leb}
-use Rattle.predicate.specs.Row.{among, classIn}
+use Rattle.predicate.specs.Row.{isOneOf, classIn}
 use Rattle.predicate.specs.declared.Class.{Class}
 use Rattle.predicate.specs.declared.Class.the-variants.{Unknown}
 
@@ -23,8 +23,8 @@ abbrev pub Apart : ℕ → List (List ℕ × Class) → Type 0
 Apart k [] = Unit {0}
 Apart k (c ∷ cs) = Differs k (c .0) × Apart k cs
 
-not-among : (k : ℕ) (ks : List ℕ) → Differs k ks → among k ks ≡ false
-unfolding among
+not-among : (k : ℕ) (ks : List ℕ) → Differs k ks → isOneOf k ks ≡ false
+unfolding isOneOf
 not-among k [] d = refl
 not-among k (j ∷ ks) d = ap₂ _||_ (ne-eqb k j (d .0)) (not-among k ks (d .1))
 

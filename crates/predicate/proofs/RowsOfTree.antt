@@ -13,7 +13,7 @@ use Rattle.rows.specs.Label.{rowOverOne, rowOverTwo, labelOverOne, labelOverTwo
 use Rattle.rows.specs.declared.Row.{Row}
 use Rattle.rows.proofs.Parts.{partOf, parts-join, part-none, row-part, part-all}
 use Rattle.predicate.specs.Row.{classOf, allowedOf, shapeOf, shapeAt, arityOf, operandsOf}
-use Rattle.predicate.specs.Tree.{Tree, rootOf, tableOf, nodeOf, treeAt, firstAt, Falls, Sound}
+use Rattle.predicate.specs.Tree.{Tree, rootOf, rowsOf, nodeOf, treeAt, firstAt, Falls, Sound}
 use Rattle.predicate.specs.Read.{one, readRows}
 use Rattle.predicate.specs.Check.{operandsPrecede, goodAt}
 use Rattle.predicate.specs.declared.Class.{Class}
@@ -28,8 +28,8 @@ use Rattle.predicate.proofs.Accepted.{Accepted, accepted}
 -- the operands' rows
 abbrev tablesOf : List ℕ → Arity → List ℕ
 tablesOf l arity.Nil = []
-tablesOf l (arity.One x) = tableOf (treeAt l x)
-tablesOf l (arity.Two x y) = tableOf (treeAt l x) ++ tableOf (treeAt l y)
+tablesOf l (arity.One x) = rowsOf (treeAt l x)
+tablesOf l (arity.Two x y) = rowsOf (treeAt l x) ++ rowsOf (treeAt l y)
 
 module _ (l : List ℕ) (r : ℕ) (w : Row) where
   -- the row of a node over the trees at w's operands is w
@@ -40,20 +40,20 @@ module _ (l : List ℕ) (r : ℕ) (w : Row) where
   over-two = ap₂ (λ (a : ℕ) (b : ℕ). numbers (rowOverTwo (labelOverTwo w) a b)) (root-at l (w .x)) (root-at l (w .y))
 
   node-rows : (c : Class)
-      → tableOf (nodeOf (shapeOf c w) r w (map (treeAt l) (operandsOf (arityOf (shapeOf c w))))) ≡ tablesOf l (arityOf (shapeOf c w)) ++ numbers w
-  unfolding tableOf nodeOf shapeOf arityOf operandsOf
+      → rowsOf (nodeOf (shapeOf c w) r w (map (treeAt l) (operandsOf (arityOf (shapeOf c w))))) ≡ tablesOf l (arityOf (shapeOf c w)) ++ numbers w
+  unfolding rowsOf nodeOf shapeOf arityOf operandsOf
   node-rows class.Unknown = refl
   node-rows class.Null = refl
   node-rows class.Boolean = refl
   node-rows class.Number = refl
   node-rows class.Text = refl
   node-rows class.Column = refl
-  node-rows class.And = ap (λ (row : List ℕ). (tableOf (treeAt l (w .x)) ++ tableOf (treeAt l (w .y))) ++ row) over-two
-  node-rows class.Or = ap (λ (row : List ℕ). (tableOf (treeAt l (w .x)) ++ tableOf (treeAt l (w .y))) ++ row) over-two
-  node-rows class.Not = ap (λ (row : List ℕ). tableOf (treeAt l (w .x)) ++ row) over-one
-  node-rows class.Is = ap (λ (row : List ℕ). tableOf (treeAt l (w .x)) ++ row) over-one
-  node-rows class.Unary = ap (λ (row : List ℕ). tableOf (treeAt l (w .x)) ++ row) over-one
-  node-rows class.Binary = ap (λ (row : List ℕ). (tableOf (treeAt l (w .x)) ++ tableOf (treeAt l (w .y))) ++ row) over-two
+  node-rows class.And = ap (λ (row : List ℕ). (rowsOf (treeAt l (w .x)) ++ rowsOf (treeAt l (w .y))) ++ row) over-two
+  node-rows class.Or = ap (λ (row : List ℕ). (rowsOf (treeAt l (w .x)) ++ rowsOf (treeAt l (w .y))) ++ row) over-two
+  node-rows class.Not = ap (λ (row : List ℕ). rowsOf (treeAt l (w .x)) ++ row) over-one
+  node-rows class.Is = ap (λ (row : List ℕ). rowsOf (treeAt l (w .x)) ++ row) over-one
+  node-rows class.Unary = ap (λ (row : List ℕ). rowsOf (treeAt l (w .x)) ++ row) over-one
+  node-rows class.Binary = ap (λ (row : List ℕ). (rowsOf (treeAt l (w .x)) ++ rowsOf (treeAt l (w .y))) ++ row) over-two
 
 -- ---- the part of the table that a tree spells
 
@@ -67,7 +67,7 @@ module _ (text l : List ℕ) where
   Goods r = (q : ℕ) → q ≤ r → goodAt text l q ≡ true
 
   operands-part : (r : ℕ) (a : Arity) → Sound l r → Falls a r → operandsPrecede l r a ≡ true
-      → ((q : ℕ) → q < r → tableOf (treeAt l q) ≡ partOf l (firstAt l q) (q + 1))
+      → ((q : ℕ) → q < r → rowsOf (treeAt l q) ≡ partOf l (firstAt l q) (q + 1))
       → tablesOf l a ≡ partOf l (firstBy l r a) r
   unfolding operandsPrecede
   operands-part r arity.Nil s f e ih = sym (part-none l r)
@@ -81,18 +81,18 @@ module _ (text l : List ℕ) where
       ap₂ _++_ (ih x (f .0)) (ih y (f .1) ∙ ap₂ (partOf l) (sym g) h)
       ∙ parts-join l {f = firstAt l x} {m = x + 1} {t = r} (omega arith) (omega arith) (omega (arith, s .there))
 
-  spelled-under : (n r : ℕ) → r < n → Sound l r → Goods r → tableOf (treeAt l r) ≡ partOf l (firstAt l r) (r + 1)
+  spelled-under : (n r : ℕ) → r < n → Sound l r → Goods r → rowsOf (treeAt l r) ≡ partOf l (firstAt l r) (r + 1)
   unfolding goodAt shapeAt
   spelled-under zero r h s g = absurd (omega arith)
   spelled-under (suc n) r h s g =
-      ap tableOf (tree-step s)
+      ap rowsOf (tree-step s)
       ∙ node
       (and-true (allowedOf text (classOf (rowAt l r .kind)) (rowAt l r .x) (rowAt l r .y)) (operandsPrecede l r (arityOf (shapeAt l r))) (g r (omega arith)))
       (λ q k. spelled-under n q (omega arith) (sound-below q s (omega arith)) (λ p i. g p (omega arith)))
     where
       node : (allowedOf text (classOf (rowAt l r .kind)) (rowAt l r .x) (rowAt l r .y) ≡ true) × (operandsPrecede l r (arityOf (shapeAt l r)) ≡ true)
-          → ((q : ℕ) → q < r → tableOf (treeAt l q) ≡ partOf l (firstAt l q) (q + 1))
-          → tableOf (nodeOf (shapeAt l r) r (rowAt l r) (map (treeAt l) (operandsOf (arityOf (shapeAt l r))))) ≡ partOf l (firstAt l r) (r + 1)
+          → ((q : ℕ) → q < r → rowsOf (treeAt l q) ≡ partOf l (firstAt l q) (q + 1))
+          → rowsOf (nodeOf (shapeAt l r) r (rowAt l r) (map (treeAt l) (operandsOf (arityOf (shapeAt l r))))) ≡ partOf l (firstAt l r) (r + 1)
       node e ih =
           node-rows l r (rowAt l r) (classOf (rowAt l r .kind))
           ∙ ap₂ _++_
@@ -100,17 +100,17 @@ module _ (text l : List ℕ) where
           (row-part l r (s .there))
           ∙ parts-join l {f = firstAt l r} {m = r} {t = r + 1} (first-le s) (omega arith) (omega (arith, s .there))
 
-pub rows-of-tree : (text l : List ℕ) (t : Tree) → readRows text l ≡ one t → tableOf t ≡ l
+pub rows-of-tree : (text l : List ℕ) (t : Tree) → readRows text l ≡ one t → rowsOf t ≡ l
 rows-of-tree text l t e =
     let a : Accepted text l t = accepted text l t e in
     let n : rowCount l - 1 + 1 ≡ rowCount l = omega (arith, a .some) in
-    ap tableOf (a .tree)
+    ap rowsOf (a .tree)
     ∙ spelled-under text l (rowCount l) (rowCount l - 1) (omega (arith, a .some)) (a .sound) (λ q h. a .good q (omega (arith, a .some)))
     ∙ ap₂ (partOf l) (a .first) n
     ∙ part-all l (a .even)
 
 -- rows that are the same are of one tree, whatever the texts
-pub same-rows : (text text' l l' : List ℕ) (t t' : Tree) → readRows text l ≡ one t → readRows text' l' ≡ one t' → tableOf t ≡ tableOf t' → t ≡ t'
+pub same-rows : (text text' l l' : List ℕ) (t t' : Tree) → readRows text l ≡ one t → readRows text' l' ≡ one t' → rowsOf t ≡ rowsOf t' → t ≡ t'
 same-rows text text' l l' t t' e e' d =
     let same : l ≡ l' = sym (rows-of-tree text l t e) ∙ d ∙ rows-of-tree text' l' t' e' in
     accepted text l t e .tree ∙ ap (λ (i : List ℕ). treeAt i (rowCount i - 1)) same ∙ sym (accepted text' l' t' e' .tree)

@@ -13,7 +13,7 @@ use Rattle.rows.specs.PostOrder.{Subtree, at, directlyBefore, Next, bad, on, pu
 use Rattle.predicate.specs.Row.{classOf, allowedOf, shapeAt, arityOf, operandsOf}
 use Rattle.predicate.specs.Tree.{Tree, rootOf, nodeOf, treeAt, Sound}
 use Rattle.predicate.specs.declared.Checked.{Checked}
-use Rattle.predicate.specs.declared.Checked.the-variants.{Good, Refused}
+use Rattle.predicate.specs.declared.Checked.the-variants.{Root, Refused}
 
 -- what rows are: one tree, or a refusal and its place
 pub data Reading : Type 0 where
@@ -56,19 +56,21 @@ readRows text l =
           ]
     ]
 
+-- No entry's promise names what follows: what the check's own promise is made of.
+
 -- what the check answers: the root's row, or the refusal
 unfoldable pub checkedOf : Reading → Checked
-checkedOf (one t) = Good (rootOf t)
+checkedOf (one t) = Root (rootOf t)
 checkedOf (refused why place) = Refused why place
 
--- the rows are a predicate: the tree at row `root`, where the operands of each row stand before it
+-- the rows are a predicate: the tree at row `root`, which is no later than rows may be, and where the operands of each row stand before it
 pub record Rooted (text rows : List ℕ) (root : ℕ) : Type 0 where
   pub reads : readRows text rows ≡ one (treeAt rows root)
   pub sound : Sound rows root
   pub low : root < rowsMax
 
--- the whole promise of the check. v is what the rows are read as; a root is the root of the tree that they are; a refusal is the reading's own
+-- the check's promise: v is what the rows are read as; a root is the root of the tree that they are; a refusal is the reading's own
 pub record Checks (text rows : List ℕ) (v : Checked) : Type 0 where
   pub answer : v ≡ checkedOf (readRows text rows)
-  pub good : (root : ℕ) → v ≡ Good root → Rooted text rows root
+  pub good : (root : ℕ) → v ≡ Root root → Rooted text rows root
   pub bad : (why : Refusal) (place : ℕ) → v ≡ Refused why place → readRows text rows ≡ refused why place

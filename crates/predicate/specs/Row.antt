@@ -16,9 +16,9 @@ use Rattle.predicate.specs.declared.Arity.{Arity}
 use Rattle.predicate.specs.declared.Arity.the-variants as arity
 
 -- k is one of ks
-unfoldable pub among : ℕ → List ℕ → Bool
-among k [] = false
-among k (j ∷ ks) = eqb k j || among k ks
+unfoldable pub isOneOf : ℕ → List ℕ → Bool
+isOneOf k [] = false
+isOneOf k (j ∷ ks) = eqb k j || isOneOf k ks
 
 -- the operators over one operand, but for Is, and those over two
 abbrev pub unaryKinds : List ℕ
@@ -57,7 +57,7 @@ classes =
 -- the class that has the kind, else unknown
 unfoldable pub classIn : ℕ → List (List ℕ × Class) → Class
 classIn k [] = class.Unknown
-classIn k (c ∷ cs) = elim (among k (c .0)) [ true ↦ c .1 | false ↦ classIn k cs ]
+classIn k (c ∷ cs) = elim (isOneOf k (c .0)) [ true ↦ c .1 | false ↦ classIn k cs ]
 
 unfoldable pub classOf : ℕ → Class
 classOf k = classIn k classes

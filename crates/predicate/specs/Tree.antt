@@ -11,7 +11,7 @@ use Rattle.predicate.specs.declared.Shape.the-variants as shape
 use Rattle.predicate.specs.declared.Arity.{Arity}
 use Rattle.predicate.specs.declared.Arity.the-variants as arity
 
--- AND (both), OR (either) and NOT (negate: kind 9, and not the operator Negate of kind 20), over their operands; and what atoms are made of: a constant or a
+-- AND (both), OR (either) and NOT (negation) over their operands; and what atoms are made of: a constant or a
 -- column (leaf), an operator over one operand (unary), and one over two (binary). The number is the row's own
 pub data Tree : Type 0 where
   leaf : ℕ → Label → Tree
@@ -19,7 +19,7 @@ pub data Tree : Type 0 where
   binary : ℕ → Label → Tree → Tree → Tree
   both : ℕ → Label → Tree → Tree → Tree
   either : ℕ → Label → Tree → Tree → Tree
-  negate : ℕ → Label → Tree → Tree
+  negation : ℕ → Label → Tree → Tree
 
 -- the root's row
 unfoldable pub rootOf : Tree → ℕ
@@ -28,7 +28,7 @@ rootOf (unary r l a) = r
 rootOf (binary r l a b) = r
 rootOf (both r l a b) = r
 rootOf (either r l a b) = r
-rootOf (negate r l a) = r
+rootOf (negation r l a) = r
 
 -- the first row
 unfoldable pub firstOf : Tree → ℕ
@@ -37,18 +37,18 @@ firstOf (unary r l a) = firstOf a
 firstOf (binary r l a b) = firstOf a
 firstOf (both r l a b) = firstOf a
 firstOf (either r l a b) = firstOf a
-firstOf (negate r l a) = firstOf a
+firstOf (negation r l a) = firstOf a
 
 -- the tree's rows in post-order
-unfoldable pub tableOf : Tree → List ℕ
-tableOf (leaf r l) = numbers (leafRow l)
-tableOf (unary r l a) = tableOf a ++ numbers (rowOverOne l (rootOf a))
-tableOf (binary r l a b) = tableOf a ++ tableOf b ++ numbers (rowOverTwo l (rootOf a) (rootOf b))
-tableOf (both r l a b) = tableOf a ++ tableOf b ++ numbers (rowOverTwo l (rootOf a) (rootOf b))
-tableOf (either r l a b) = tableOf a ++ tableOf b ++ numbers (rowOverTwo l (rootOf a) (rootOf b))
-tableOf (negate r l a) = tableOf a ++ numbers (rowOverOne l (rootOf a))
+unfoldable pub rowsOf : Tree → List ℕ
+rowsOf (leaf r l) = numbers (leafRow l)
+rowsOf (unary r l a) = rowsOf a ++ numbers (rowOverOne l (rootOf a))
+rowsOf (binary r l a b) = rowsOf a ++ rowsOf b ++ numbers (rowOverTwo l (rootOf a) (rootOf b))
+rowsOf (both r l a b) = rowsOf a ++ rowsOf b ++ numbers (rowOverTwo l (rootOf a) (rootOf b))
+rowsOf (either r l a b) = rowsOf a ++ rowsOf b ++ numbers (rowOverTwo l (rootOf a) (rootOf b))
+rowsOf (negation r l a) = rowsOf a ++ numbers (rowOverOne l (rootOf a))
 
--- operand n of row r, which has its operands' trees wherever it is read
+-- the tree of operand n of row r; a leaf where there is none, which no row that is read has
 abbrev pub operandIn : List Tree → ℕ → ℕ → Row → Tree
 operandIn ts n r w = getD ts n (leaf r (leafLabel w))
 
@@ -59,7 +59,7 @@ nodeOf (shape.One x) r w ts = unary r (labelOverOne w) (operandIn ts 0 r w)
 nodeOf (shape.Two x y) r w ts = binary r (labelOverTwo w) (operandIn ts 0 r w) (operandIn ts 1 r w)
 nodeOf (shape.Both x y) r w ts = both r (labelOverTwo w) (operandIn ts 0 r w) (operandIn ts 1 r w)
 nodeOf (shape.Either x y) r w ts = either r (labelOverTwo w) (operandIn ts 0 r w) (operandIn ts 1 r w)
-nodeOf (shape.Not x) r w ts = negate r (labelOverOne w) (operandIn ts 0 r w)
+nodeOf (shape.Not x) r w ts = negation r (labelOverOne w) (operandIn ts 0 r w)
 
 -- No entry's promise names what follows, the tree that a row's operands lead to: which rows are a predicate, Read says.
 

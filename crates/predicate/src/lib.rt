@@ -225,7 +225,7 @@ fn good_at(text: &[u8], rows: &[u64], r: usize) -> bool
 
 // What the check finds: the root's row, which is the last, or a refusal and its place.
 pub enum Checked {
-    Good(usize),
+    Root(usize),
     Refused(Refusal, usize),
 }
 
@@ -247,7 +247,7 @@ fn check_rows(text: &[u8], rows: &[u64]) -> Checked
     let last = whole - 1;
     let first = first_of(rows, last);
     if first == 0 {
-        Checked::Good(last)
+        Checked::Root(last)
     } else {
         Checked::Refused(Refusal::BadTree, last)
     }

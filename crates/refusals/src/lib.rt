@@ -22,7 +22,7 @@ pub enum Refusal {
     NoSuch,
 }
 
-// The number by which callers know a refusal. The four that need some token are WRONG_TOKEN to them.
+// Answers the number by which callers know a refusal. The four that need some token are WRONG_TOKEN to them.
 pub fn number_of(why: Refusal) -> u32
     ensures { λ r. ⌜ r ≡ refusalNumber why ⌝ }
 {

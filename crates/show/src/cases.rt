@@ -158,7 +158,7 @@ fn show_predicate(text: &[u8], line: &[u8], from: usize, number: u64, rows: &[u6
 {
     let none = [0u32; 0];
     match predicate::check(text, rows) {
-        Checked::Good(_) => {
+        Checked::Root(_) => {
             draw_counted(Family::Predicate, text, &none, rows, rows::count(rows));
             print_predicate(text, rows, number);
         }

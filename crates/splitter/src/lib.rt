@@ -31,7 +31,7 @@ pub enum Listed {
     Refused(Refusal, usize),
 }
 
-// The most literals for which the small table of cells does: clearing the large one costs more than most predicates.
+// The most literals for which the small table of cells suffices: clearing the large one costs more than most predicates.
 const FEW: usize = 256;
 
 // The places of a table of cells: two for each literal, and two for the cell that is none.
@@ -116,6 +116,6 @@ pub fn split(text: &[u8], rows: &[u64], literals: &mut [u32], ends: &mut [u32]) 
 {
     match predicate::check(text, rows) {
         Checked::Refused(why, place) => Listed::Refused(why, place),
-        Checked::Good(root) => list_tree(rows, literals, ends, root),
+        Checked::Root(root) => list_tree(rows, literals, ends, root),
     }
 }

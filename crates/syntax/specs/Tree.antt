@@ -3,7 +3,6 @@ use Prim.Native.Nat.{ℕ, _+_, _-_}
 use mathlib.Core.List.{List, [], _++_}
 use Rattle.rows.specs.Label.{Label, leafRow, rowOverOne, rowOverTwo, rowOverMany}
 use Rattle.rows.specs.Layout.{numbers}
-use Rattle.rows.specs.declared.Row.{Row}
 
 mutual
   pub data Tree : Type 0 where

@@ -30,14 +30,14 @@ pub enum Checked {
     Refused(Refusal, usize),
 }
 
-// How many whole tokens there are.
+// Counts the whole tokens.
 pub fn count(tokens: &[u32]) -> usize
     ensures { λ r. ⌜ r ≡ tokenCount (now (tokens .entry)) ⌝ }
 {
     tokens.len() / WIDTH
 }
 
-// Token n, or none.
+// Reads token n, or none.
 fn token_at(tokens: &[u32], n: usize) -> Token
     ensures { λ r. ⌜ r ≡ tokenAt (now (tokens .entry)) n ⌝ }
 {
@@ -60,7 +60,7 @@ fn token_at(tokens: &[u32], n: usize) -> Token
     }
 }
 
-// The kind of token n, and 0 where there is none: all that a reader looks at on its way.
+// Answers the kind of token n, and 0 where there is none: all that a reader looks at on its way.
 pub fn kind_at(tokens: &[u32], n: usize) -> u32
     ensures { λ r. ⌜ r ≡ kindAt (now (tokens .entry)) n ⌝ }
 {
@@ -71,14 +71,14 @@ pub fn kind_at(tokens: &[u32], n: usize) -> u32
     }
 }
 
-// Is this one of the kinds?
+// Tells if a kind is known.
 fn known(kind: u32) -> bool
     ensures { λ r. ⌜ r ≡ knownOf kind ⌝ }
 {
     if 1 <= kind { kind <= kind::LAST } else { false }
 }
 
-// Does a token's span lie in the text? The sum of two 32-bit numbers cannot wrap here.
+// Tells if a token's span lies in the text. The sum of two 32-bit numbers cannot wrap here.
 fn span_fits(text: &[u8], t: Token) -> bool
     ensures { λ r. ⌜ r ≡ fits (now (text .entry)) t ⌝ }
 {
@@ -87,7 +87,7 @@ fn span_fits(text: &[u8], t: Token) -> bool
     start + length <= text.len()
 }
 
-// Is token n of a known kind, and its span in the text?
+// Tells if token n is of a known kind, with its span in the text.
 fn token_good(text: &[u8], tokens: &[u32], n: usize) -> bool
     ensures { λ r. ⌜ r ≡ (knownOf (kindAt (now (tokens .entry)) n) && fits (now (text .entry)) (tokenAt (now (tokens .entry)) n)) ⌝ }
 {
@@ -100,7 +100,7 @@ fn token_good(text: &[u8], tokens: &[u32], n: usize) -> bool
     }
 }
 
-// Each token in turn, up to the first that is not good.
+// Checks each token in turn, up to the first that is not good.
 fn check_tokens(text: &[u8], tokens: &[u32]) -> Checked
     ensures { λ r. ⌜ r ≡ checkFrom (now (text .entry)) (now (tokens .entry)) 0 (tokenCount (now (tokens .entry))) ⌝ }
 {
@@ -115,7 +115,7 @@ fn check_tokens(text: &[u8], tokens: &[u32]) -> Checked
     Checked::Good(whole)
 }
 
-// The table's check: lengths first, then each token in turn.
+// Checks the lengths first, then each token in turn.
 pub fn check_table(text: &[u8], tokens: &[u32]) -> Checked
     ensures { λ r. ⌜ r ≡ checkTable (now (text .entry)) (now (tokens .entry)) ⌝ }
 {
@@ -132,7 +132,7 @@ pub fn check_table(text: &[u8], tokens: &[u32]) -> Checked
     check_tokens(text, tokens)
 }
 
-// Where the bytes of token n lie in the text.
+// Finds where the bytes of token n lie in the text.
 pub fn span_at(text: &[u8], tokens: &[u32], n: usize) -> Span
     ensures { λ r. ⌜ r ≡ spanAt (now (text .entry)) (now (tokens .entry)) n ⌝ }
 {
@@ -149,7 +149,7 @@ pub fn span_at(text: &[u8], tokens: &[u32], n: usize) -> Span
     }
 }
 
-// The bytes of token n, as that part of the text; the empty part at the start where there is no such token or its span is not in the text.
+// Answers the bytes of token n, as that part of the text; the empty part at the start where there is no such token or its span is not in the text.
 pub fn spelled<'a>(text: &'a [u8], tokens: &[u32], n: usize) -> &'a [u8]
     ensures bytes { λ r. ⌜ now r ≡ spelledOf (now (text .entry)) (now (tokens .entry)) n ⌝ }
     ensures place { λ r. ⌜ (r .ptr .0 ≡ text .entry .ptr .0) × (r .ptr .1 ≡ spanAt (now (text .entry)) (now (tokens .entry)) n .start + text .entry .ptr .1) ⌝ }

@@ -12,7 +12,7 @@ use lib.IntN.{pos, negsuc}
 use lib.Ieee.{binary64, isNan, ofBits}
 use lib.Ieee.Bits.{toBits-ofBits}
 use Rattle.predicate.specs.Kind as kind
-use Rattle.predicate.specs.Row.{among, classes, classIn, classOf, allowedOf}
+use Rattle.predicate.specs.Row.{isOneOf, classes, classIn, classOf, allowedOf}
 use Rattle.values.specs.Value.{signedOf, patternOf, valueBy, valueOf, constantOf}
 use Rattle.values.specs.declared.Constant.{Constant}
 use Rattle.values.proofs.NanPatterns.{one-nan-pattern, not-a-nan}
@@ -36,11 +36,11 @@ constantBy k x y = record { kind = k; x = x; y = y }
 
 module _ (text : List ℕ) (x y : ℕ) where
   null-back : allowedOf text (classOf kind.null) x y ≡ true → constantOf (valueBy kind.null x y) ≡ constantBy kind.null x y
-  unfolding allowedOf classOf classIn classes among constantOf valueBy
+  unfolding allowedOf classOf classIn classes isOneOf constantOf valueBy
   null-back e = let f = both-true _ _ e in ap₂ (constantBy kind.null) (sym (eqb-true x 0 (f .0))) (sym (eqb-true y 0 (f .1)))
 
   boolean-back : allowedOf text (classOf kind.boolean) x y ≡ true → constantOf (valueBy kind.boolean x y) ≡ constantBy kind.boolean x y
-  unfolding allowedOf classOf classIn classes among constantOf valueBy
+  unfolding allowedOf classOf classIn classes isOneOf constantOf valueBy
   boolean-back e = let f = both-true _ _ e in ap₂ (constantBy kind.boolean) (bit x (leb-true x 1 (f .0))) (sym (eqb-true y 0 (f .1)))
     where
       bit : (n : ℕ) → n ≤ 1 → elim (eqb n 1) [ true ↦ 1 | false ↦ 0 ] ≡ n
@@ -49,12 +49,12 @@ module _ (text : List ℕ) (x y : ℕ) where
       bit (suc (suc n)) h = absurd (omega arith)
 
   integer-back : x < 2 ^ 64 → allowedOf text (classOf kind.integer) x y ≡ true → constantOf (valueBy kind.integer x y) ≡ constantBy kind.integer x y
-  unfolding allowedOf classOf classIn classes among constantOf valueBy
+  unfolding allowedOf classOf classIn classes isOneOf constantOf valueBy
   integer-back h e = ap₂ (constantBy kind.integer) (pattern-back x h) (sym (eqb-true y 0 e))
 
   float-back : x < 2 ^ 64 → isNan (ofBits binary64 x) ≡ false → allowedOf text (classOf kind.float) x y ≡ true
       → constantOf (valueBy kind.float x y) ≡ constantBy kind.float x y
-  unfolding allowedOf classOf classIn classes among constantOf valueBy
+  unfolding allowedOf classOf classIn classes isOneOf constantOf valueBy
   float-back h n e = ap₂ (constantBy kind.float) (toBits-ofBits binary64 x h (not-a-nan (ofBits binary64 x) n)) (sym (eqb-true y 0 e))
 
   string-back : constantOf (valueBy kind.string x y) ≡ constantBy kind.string x y

@@ -23,7 +23,7 @@ pub enum Value {
     String { start: usize, length: usize },
 }
 
-// The low 63 bits of a pattern, and those of infinity's: those of a NaN's are above them.
+// All bits of a pattern but the sign; and those of infinity: a NaN has more.
 const LOW_BITS: u64 = 0x7fff_ffff_ffff_ffff;
 
 const INFINITY_BITS: u64 = 0x7ff0_0000_0000_0000;
@@ -140,7 +140,7 @@ pub fn constant_of(value: Value) -> Constant
     }
 }
 
-// Is it NULL or NaN? No cell equals these.
+// Tells if it is NULL or NaN: no cell equals these.
 pub fn is_undefined(value: Value) -> bool
     ensures { λ r. ⌜ r ≡ isUndefined value ⌝ }
 {

@@ -29,7 +29,7 @@ unfolding cases said.tokens said.parsed said.split said.values said.lookedUp pro
     syntax.size syntax.sizes syntax.many syntax.rowsOf syntax.rowsAll token.tokenAt token.kindAt token.known token.fits token.checkFrom
     token.checkTable token.spanOf token.spanAt token.spelled number.digit number.begins number.ended number.pastDigits number.digits
     number.pastFraction number.pastSign number.exponent number.valueFrom number.integerOf number.numberOf order.standsBefore order.before
-    order.directlyBefore order.push row.among row.classes row.classIn row.classOf row.allowedOf row.shapeOf row.shapeAt row.arityOf
+    order.directlyBefore order.push row.isOneOf row.classes row.classIn row.classOf row.allowedOf row.shapeOf row.shapeAt row.arityOf
     row.operandsOf tree.rootOf tree.nodeOf read.stepAt read.ended read.andThen read.readFrom read.readRows clause.clauses
     clause.literalNumber value.signedOf value.patternOf value.valueBy value.valueOf value.constantOf value.isUndefined lookup.leafOf
     lookup.isColumn lookup.isConstant lookup.equalTest lookup.isTest lookup.testOf lookup.literalTest lookup.testsColumn

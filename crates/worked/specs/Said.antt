@@ -2,7 +2,7 @@
 use Prim.Native.Nat.{ℕ, _+_}
 use mathlib.Core.List.{List, [], _∷_, _++_}
 use mathlib.Core.Bool.{false}
-use Rattle.limits.specs.Limits.{rowsMax, levelMax}
+use Rattle.limits.specs.Limits.{rowsMax, levelsMax}
 use Rattle.refusals.specs.Refusal.{refusalNumber}
 use Rattle.syntax.specs.Tree.{rowsOf}
 use Rattle.grammar.specs.Rules as rules
@@ -20,7 +20,7 @@ tokens i (k ∷ ks) = k ∷ i ∷ 1 ∷ tokens (i + 1) ks
 
 -- a parse into a table of as many rows as there may be
 unfoldable pub parsed : List ℕ → List ℕ → List ℕ
-parsed text kinds = said (parsing text (tokens 0 kinds) rowsMax levelMax)
+parsed text kinds = said (parsing text (tokens 0 kinds) rowsMax levelsMax)
   where
     said : rules.Reading → List ℕ
     said (rules.done at used x) = 0 ∷ rowsOf 0 x

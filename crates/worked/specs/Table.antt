@@ -1,6 +1,6 @@
 -- The examples that FORMAT §12 marks as proved: what the definitions say of each input, beside what FORMAT says. Tokens are of one byte each. In a parse
 -- the answer is 0 and the tree's rows, or the refusal's number and place; in a split 0, the literals and the ends; in a lookup 0, the column and the values'
--- rows. Letters in predicates are the columns 0 to 3.
+-- constants. Letters in predicates are the columns 0 to 3.
 use Prim.Native.Nat.{ℕ}
 use mathlib.Core.List.{List, [], _∷_}
 use Rattle.tokens.specs.Kind as kind

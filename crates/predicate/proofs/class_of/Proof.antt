@@ -3,7 +3,7 @@
 use mathlib.Core.Path.{sym, ap}
 use lib.ListN.{drop}
 use Rattle.predicate.proofs.Classes.{Differs, Apart, unknown}
-use Rattle.predicate.specs.Row.{among, unaryKinds, binaryKinds, classes, classIn, classOf}
+use Rattle.predicate.specs.Row.{isOneOf, unaryKinds, binaryKinds, classes, classIn, classOf}
 use Rattle.predicate.proofs.class_of.Statement.{statement}
 use Rattle.predicate.proofs.class_of.Tie as tie
 
@@ -42,7 +42,7 @@ other c =
     sym (unknown kind classes ((n1 .1, tt), ((n2 .1, tt), ((n3 .1, (n4 .1, tt)), ((n5 .1, tt), ((n6 .1, tt), not-logical))))))
 
 pub class-of-spec : {M : Type 1} → statement M
-unfolding classOf classIn classes among
+unfolding classOf classIn classes isOneOf
 class-of-spec =
     tie.close
     (tie.spec
