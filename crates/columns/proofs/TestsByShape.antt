@@ -18,6 +18,7 @@ use Rattle.predicate.proofs.Shapes.{node-at}
 use Rattle.values.specs.Value.{constantOfLabel}
 use Rattle.columns.specs.Lookup.{noLabel, leafOf, isColumn, isConstant, equalTest, isTest, testOf}
 use Rattle.columns.specs.Partial.{isLeaf}
+use Rattle.columns.specs.declared.test.Test.{Test}
 use Rattle.columns.specs.declared.test.Test.the-variants.{Other, Equals}
 
 -- ---- labels
@@ -71,34 +72,22 @@ module _ {l : List ℕ} {r : ℕ} (h : Sound l r) {s : Shape} (e : s ≡ shapeAt
   leaf-off f = sym (ap leafOf (node-at h e refl) ∙ leaf-node s r (rowAt l r) (map (treeAt l) (operandsOf (arityOf s))) false f)
 
 module _ {l : List ℕ} {r : ℕ} (h : Sound l r) {s : Shape} (e : s ≡ shapeAt l r) where
+  -- a row tests what its node tests
+  pub test-node : {k : Shape} {t : Test} → s ≡ k → testOf (nodeOf k r (rowAt l r) (map (treeAt l) (operandsOf (arityOf k)))) ≡ t → t ≡ testOf (treeAt l r)
+  test-node f g = sym (ap testOf (node-at h e f) ∙ g)
+
   pub test-is : {x : ℕ} → s ≡ shape.One x → rowAt l r .kind ≡ kind.is → isTest (leafOf (treeAt l x)) (rowAt l r .y) ≡ testOf (treeAt l r)
   unfolding testOf nodeOf arityOf operandsOf
-  test-is f g = sym (ap testOf (node-at h e f) ∙ rw (eq-eqb (rowAt l r .kind) kind.is g, testOf))
+  test-is f g = test-node f (rw (eq-eqb (rowAt l r .kind) kind.is g, testOf))
 
   pub test-unary : {x : ℕ} → s ≡ shape.One x → (rowAt l r .kind ≡ kind.is → ⊥) → Other ≡ testOf (treeAt l r)
   unfolding testOf nodeOf arityOf operandsOf
-  test-unary f g = sym (ap testOf (node-at h e f) ∙ rw (ne-eqb (rowAt l r .kind) kind.is g, testOf))
+  test-unary f g = test-node f (rw (ne-eqb (rowAt l r .kind) kind.is g, testOf))
 
   pub test-equal : {x y : ℕ} → s ≡ shape.Two x y → rowAt l r .kind ≡ kind.equal → equalTest (leafOf (treeAt l x)) (leafOf (treeAt l y)) ≡ testOf (treeAt l r)
   unfolding testOf nodeOf arityOf operandsOf
-  test-equal f g = sym (ap testOf (node-at h e f) ∙ rw (eq-eqb (rowAt l r .kind) kind.equal g, testOf))
+  test-equal f g = test-node f (rw (eq-eqb (rowAt l r .kind) kind.equal g, testOf))
 
   pub test-binary : {x y : ℕ} → s ≡ shape.Two x y → (rowAt l r .kind ≡ kind.equal → ⊥) → Other ≡ testOf (treeAt l r)
   unfolding testOf nodeOf arityOf operandsOf
-  test-binary f g = sym (ap testOf (node-at h e f) ∙ rw (ne-eqb (rowAt l r .kind) kind.equal g, testOf))
-
-  pub test-leaf : s ≡ shape.Leaf → Other ≡ testOf (treeAt l r)
-  unfolding testOf nodeOf
-  test-leaf f = sym (ap testOf (node-at h e f))
-
-  pub test-both : {x y : ℕ} → s ≡ shape.Both x y → Other ≡ testOf (treeAt l r)
-  unfolding testOf nodeOf
-  test-both f = sym (ap testOf (node-at h e f))
-
-  pub test-either : {x y : ℕ} → s ≡ shape.Either x y → Other ≡ testOf (treeAt l r)
-  unfolding testOf nodeOf
-  test-either f = sym (ap testOf (node-at h e f))
-
-  pub test-not : {x : ℕ} → s ≡ shape.Not x → Other ≡ testOf (treeAt l r)
-  unfolding testOf nodeOf
-  test-not f = sym (ap testOf (node-at h e f))
+  test-binary f g = test-node f (rw (ne-eqb (rowAt l r .kind) kind.equal g, testOf))

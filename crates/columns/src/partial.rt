@@ -5,7 +5,7 @@ use values::Value;
 use values::is_undefined;
 use values::value_of;
 ghost use mathlib.Core.Path.{_≡_};
-ghost use Prim.Native.Nat.{_<_};
+ghost use Prim.Native.Nat.{_≤_};
 ghost use Rattle.limits.specs.Limits.{literalsMax};
 ghost use Rattle.predicate.specs.Tree.{treeAt, Sound};
 ghost use Rattle.cnf.specs.Clause.{literal};
@@ -52,7 +52,7 @@ fn value_in(test: Test) -> TestValue
 
 // Adds the value that a test looks for, if there is one.
 fn with_value(wanted: usize, column: usize, many: usize, kept: Value, test: Test) -> PartialLookup
-    requires { ⌜ many < literalsMax ⌝ }
+    requires { ⌜ many ≤ literalsMax ⌝ }
     ensures { λ r. ⌜ r ≡ withValue wanted column many kept (valueIn test) ⌝ }
 {
     let found = value_in(test);
@@ -91,7 +91,7 @@ fn tests_column(column: usize, test: Test) -> bool
 
 // Adds one test.
 fn with_test(wanted: usize, partial: PartialLookup, test: Test) -> PartialLookup
-    requires { ⌜ valueCount partial < literalsMax ⌝ }
+    requires { ⌜ valueCount partial ≤ literalsMax ⌝ }
     ensures { λ r. ⌜ r ≡ withTest wanted partial test ⌝ }
 {
     match partial {
@@ -127,7 +127,7 @@ pub fn with_literal(
     wanted: usize,
     partial: PartialLookup,
 ) -> PartialLookup
-    requires { ⌜ Sound (now rows) atom × (valueCount partial < literalsMax) ⌝ }
+    requires { ⌜ Sound (now rows) atom × (valueCount partial ≤ literalsMax) ⌝ }
     ensures { λ v. ⌜ v ≡ withTest wanted partial (literalTest (literal negated (treeAt (now (rows .entry)) atom))) ⌝ }
 {
     with_test(wanted, partial, literal_test(rows, atom, negated))

@@ -10,7 +10,6 @@
 // `&*tokens`: so the compiler keeps a slice's two halves apart, and reads wait less.
 mod shortcut;
 
-use crate::shortcut::again;
 use crate::shortcut::any_postfixes;
 use crate::shortcut::single_token;
 use crate::shortcut::single_token_operand;
@@ -77,7 +76,7 @@ pub fn expression(
     if !postfix_at(tokens, end, min) {
         return Step::Read(Cursor { at: end, rows: n });
     }
-    again(postfixes(&*tokens, rows, Cursor { at: end, rows: n }, min))
+    postfixes(&*tokens, rows, Cursor { at: end, rows: n }, min)
 }
 
 // Reads a prefix operator of at least `min` with its operand, or else an atom.
@@ -298,5 +297,5 @@ fn right_side(
     if single_token_operand(tokens, at, levels, min) {
         return single_token(text, tokens, rows, c);
     }
-    again(expression(&*text, &*tokens, rows, c, levels, min))
+    expression(&*text, &*tokens, rows, c, levels, min)
 }

@@ -1,4 +1,4 @@
-// Shortcuts: each saves a call, or the processor a wait, and answers what the general way answers. Each is worth a tenth of the time that a short
+// Shortcuts: each saves a call and answers what the general way answers. Each is worth a tenth of the time that a short
 // filter takes; docs/PERFORMANCE.md says how fast they are.
 use grammar::Cursor;
 use grammar::Step;
@@ -18,21 +18,8 @@ ghost use Rattle.numbers.specs.Number.{numberOf};
 ghost use Rattle.grammar.specs.Memory.{Gives, postfixes as postfixesOf, numeral as numeralOf};
 ghost use Rattle.reader.specs.Shortcut.{mayFollowOperand, startsLeaf, singleTokenOperand, singleToken};
 
-// Answers the same, put together anew: after a call that stays a call, so that the compiler does not copy the bytes between its fields.
-pub fn again(s: Step) -> Step
-    ensures { λ r. ⌜ r ≡ s ⌝ }
-{
-    match s {
-        Step::Read(c) => {
-            let at = c.at;
-            let rows = c.rows;
-            Step::Read(Cursor { at, rows })
-        }
-        Step::Refused(why, at) => Step::Refused(why, at),
-    }
-}
-
-// Reads postfix operators where there are most often none: one look, and a call only where there is one.
+// Reads postfix operators where there are most often none: one look, and a call only where there is one. The cursor is put together anew, so that it
+// stays out of memory.
 pub fn any_postfixes(tokens: &[u32], rows: &mut [u64], c: Cursor, min: u32) -> Step
     requires { ⌜ (c .at ≤ tokenCount (now tokens)) × (0 < c .rows) ⌝ }
     ensures { λ r. ⌜ Gives (postfixesOf (now (tokens .entry)) min c (now (rows .entry))) r (now (rows .exit)) ⌝ }
@@ -42,7 +29,7 @@ pub fn any_postfixes(tokens: &[u32], rows: &mut [u64], c: Cursor, min: u32) -> S
     if !postfix_at(tokens, at, min) {
         return Step::Read(Cursor { at, rows: n });
     }
-    again(postfixes(&*tokens, rows, Cursor { at, rows: n }, min))
+    postfixes(&*tokens, rows, Cursor { at, rows: n }, min)
 }
 
 // Tells if a token of this kind may follow an operand of one token and be read with it, at the minimum `min`.
@@ -97,7 +84,7 @@ fn digits_only_numeral(text: &[u8], tokens: &[u32], rows: &mut [u64], c: Cursor)
     let at = c.at;
     let x = numbers::digits_only(table::spelled(text, tokens, at));
     let Number::Integer(n) = x else {
-        return again(numeral(&*text, &*tokens, rows, c));
+        return numeral(&*text, &*tokens, rows, c);
     };
     push_leaf(rows, c, row::INTEGER, n)
 }

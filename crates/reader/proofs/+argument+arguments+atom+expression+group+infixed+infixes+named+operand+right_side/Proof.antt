@@ -43,7 +43,6 @@ use Rattle.operators.proofs.prefix_row.Reads as prefix-row-reads
 use Rattle.operators.proofs.right_minimum.Reads as right-minimum-reads
 use Rattle.operators.proofs.infix_row.Reads as infix-row-reads
 use Rattle.steps.proofs.atom.start_of.Reads as start-of-reads
-use Rattle.reader.proofs.shortcut.again.Reads as again-reads
 use Rattle.reader.proofs.shortcut.any_postfixes.Reads as any-postfixes-reads
 use Rattle.steps.proofs.postfix.postfix_at.Reads as postfix-at-reads
 use Rattle.steps.proofs.postfix.postfixes.Reads as postfixes-reads
@@ -176,8 +175,6 @@ pub +argument+arguments+atom+expression+group+infixed+infixes+named+operand+righ
       postfix-at-reads.Learnt,
       postfixes-reads.Asked,
       postfixes-reads.Learnt,
-      again-reads.Asked,
-      again-reads.Learnt,
     )
     (measures.expression-at t)
     expression.Post
@@ -202,7 +199,6 @@ pub +argument+arguments+atom+expression+group+infixed+infixes+named+operand+righ
     (expression-needs.expression-same-length-4 t)
     (expression-needs.expression-returns-5 t)
     (expression-needs.expression-postfixes-requires t)
-    (expression-needs.expression-again-requires t)
     (expression-needs.expression-same-length-5 t)
     (expression-needs.expression-returns-6 t))
     (λ t. group-lts.spec (
@@ -331,8 +327,6 @@ pub +argument+arguments+atom+expression+group+infixed+infixes+named+operand+righ
       single-token-reads.Learnt,
       measures.expression-below t,
       expression.Post,
-      again-reads.Asked,
-      again-reads.Learnt,
     )
     (measures.right-side-at t)
     right-side.Post
@@ -341,6 +335,5 @@ pub +argument+arguments+atom+expression+group+infixed+infixes+named+operand+righ
     (right-side-needs.right-side-same-length t)
     (right-side-needs.right-side-returns t)
     (right-side-needs.right-side-expression-requires t)
-    (right-side-needs.right-side-again-requires t)
     (right-side-needs.right-side-same-length-2 t)
     (right-side-needs.right-side-returns-2 t)

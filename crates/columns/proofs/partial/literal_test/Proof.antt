@@ -1,4 +1,4 @@
--- `partial::literal_test` meets its contract: a negated literal testsColumn nothing.
+-- `partial::literal_test` meets its contract: a negated literal tests no column.
 -- Assumes nothing.
 use mathlib.Core.Path.{_∙_}
 use Rattle.columns.proofs.PartialLookups.{plain-literal, negated-literal}

@@ -1,4 +1,4 @@
--- `partial::with_literal` meets its contract: what the literal testsColumn is gathered.
+-- `partial::with_literal` meets its contract: what the literal tests is added.
 -- Assumes nothing.
 use mathlib.Core.Path.{ap, _∙_}
 use Rattle.columns.specs.Partial.{withTest}

@@ -1,8 +1,9 @@
 -- `test::test_at` meets its contract: the tree at a row is made by the row's shape, from the trees at its operands.
 -- Assumes nothing.
-use Rattle.columns.specs.Lookup.{isTest, equalTest}
-use mathlib.Core.Path.{sym, ap, ap₂, _∙_}
-use Rattle.columns.proofs.TestsByShape.{test-is, test-unary, test-equal, test-binary, test-leaf, test-both, test-either, test-not}
+use Rattle.columns.specs.Lookup.{isTest, equalTest, testOf}
+use Rattle.predicate.specs.Tree.{nodeOf}
+use mathlib.Core.Path.{refl, sym, ap, ap₂, _∙_}
+use Rattle.columns.proofs.TestsByShape.{test-node, test-is, test-unary, test-equal, test-binary}
 use Rattle.rows.specs.declared.Row.{Row}
 use Rattle.predicate.proofs.Shapes.{sound-operand, sound-left, sound-right}
 use borrow.Author.Needs.{needs}
@@ -100,28 +101,32 @@ returns-4 c =
     test-binary pre (shape-at .ensures) (shape2 .given .1) (λ e. c .if2 .left (ap (λ (w : Row). w .kind) (row-at .ensures) ∙ e))
 
 returns-5 : tie.Need-returns-5
+unfolding testOf nodeOf
 returns-5 c =
     let pre = c .before .before .before .before .before .pre in
     let shape-at = c .before .before .shape-at in
-    test-leaf pre (shape-at .ensures) (c .enum-told .given .1)
+    test-node pre (shape-at .ensures) (c .enum-told .given .1) refl
 
 returns-6 : tie.Need-returns-6
+unfolding testOf nodeOf
 returns-6 c =
     let pre = c .before .before .before .before .before .pre in
     let shape-at = c .before .before .shape-at in
-    test-both pre (shape-at .ensures) (c .enum-told2 .given .1)
+    test-node pre (shape-at .ensures) (c .enum-told2 .given .1) refl
 
 returns-7 : tie.Need-returns-7
+unfolding testOf nodeOf
 returns-7 c =
     let pre = c .before .before .before .before .before .pre in
     let shape-at = c .before .before .shape-at in
-    test-either pre (shape-at .ensures) (c .enum-told3 .given .1)
+    test-node pre (shape-at .ensures) (c .enum-told3 .given .1) refl
 
 returns-8 : tie.Need-returns-8
+unfolding testOf nodeOf
 returns-8 c =
     let pre = c .before .before .before .before .before .pre in
     let shape-at = c .before .before .shape-at in
-    test-not pre (shape-at .ensures) (c .enum-told4 .given .1)
+    test-node pre (shape-at .ensures) (c .enum-told4 .given .1) refl
 
 pub test-at-spec : {M : Type 1} → statement M
 test-at-spec =

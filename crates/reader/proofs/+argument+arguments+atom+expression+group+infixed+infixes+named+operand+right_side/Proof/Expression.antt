@@ -22,7 +22,6 @@ use Rattle.reader.proofs.+argument+arguments+atom+expression+group+infi
 use Rattle.reader.proofs.expression.Reads as expression
 use Rattle.reader.proofs.infixes.Reads as infixes
 use Rattle.reader.proofs.operand.Reads as operand
-use Rattle.reader.proofs.shortcut.again.Reads as again-reads
 use Rattle.reader.proofs.shortcut.any_postfixes.Reads as any-postfixes-reads
 use Rattle.steps.proofs.postfix.postfix_at.Reads as postfix-at-reads
 use Rattle.steps.proofs.postfix.postfixes.Reads as postfixes-reads
@@ -64,8 +63,6 @@ calls t = (
   postfix-at-reads.Learnt,
   postfixes-reads.Asked,
   postfixes-reads.Learnt,
-  again-reads.Asked,
-  again-reads.Learnt,
 )
 
 pub expression-returns : (t : ℕ) → expression-lts.Need-returns (calls t) (measures.expression-at t) expression.Post
@@ -200,23 +197,20 @@ expression-postfixes-requires t c κs =
     (after-postfixes _ _ _ _ (second .given .1) (any-postfixes .ensures)
     (after-operand _ _ _ _ _ _ (first .given .1) (the-operand .ensures) (pre .1)))
 
-pub expression-again-requires : (t : ℕ) → expression-lts.Need-again-requires (calls t) (measures.expression-at t) expression.Post
-expression-again-requires t c κs = search needs
-
 pub expression-same-length-5 : (t : ℕ) → expression-lts.Need-same-length-5 (calls t) (measures.expression-at t) expression.Post
 expression-same-length-5 t c =
-    let at-infixes = c .before .before .before .before .before .before .before .before .before .before .before .before in
+    let at-infixes = c .before .before .before .before .before .before .before .before .before .before .before in
     let at-any-postfixes = at-infixes .before .before .before .before .before .before .before in
     let the-operand = at-any-postfixes .before .before .before .before .before .before .before .operand in
     let any-postfixes = at-any-postfixes .any-postfixes in
     let the-infixes = at-infixes .infixes in
-    let postfixes = c .before .before .before .postfixes in
+    let postfixes = c .before .before .postfixes in
     postfixes .kept .1 .0 ∙ the-infixes .kept .1 .1 .0 ∙ any-postfixes .kept .1 .0 ∙ the-operand .kept .1 .1 .0
 
 pub expression-returns-6 : (t : ℕ) → expression-lts.Need-returns-6 (calls t) (measures.expression-at t) expression.Post
 unfolding M.level
 expression-returns-6 t c =
-    let at-infixes = c .before .before .before .before .before .before .before .before .before .before .before .before in
+    let at-infixes = c .before .before .before .before .before .before .before .before .before .before .before in
     let at-first = at-infixes .before .before .before .before .before .before .before .before .before .before in
     let if1 = at-first .before .before .before .before .before .before .if1 in
     let the-operand = at-first .before .before .before .before .operand in
@@ -224,11 +218,10 @@ expression-returns-6 t c =
     let any-postfixes = at-infixes .before .before .before .before .before .before .before .any-postfixes in
     let second = at-infixes .before .before .before .second in
     let the-infixes = at-infixes .infixes in
-    let third = c .before .before .before .before .before .before .before .before .third in
-    let postfixes = c .before .before .before .postfixes in
-    rw (c .again .ensures)
-    (gives-same
+    let third = c .before .before .before .before .before .before .before .third in
+    let postfixes = c .before .before .postfixes in
+    gives-same
     (sym (after-read _ (third .given .1) (the-infixes .ensures))
     ∙ sym (after-read _ (second .given .1) (any-postfixes .ensures))
     ∙ sym (after-read _ (first .given .1) (the-operand .ensures))
-    ∙ expression-level _ _ _ _ _ _ (if1 .left)) (postfixes .ensures))
+    ∙ expression-level _ _ _ _ _ _ (if1 .left)) (postfixes .ensures)

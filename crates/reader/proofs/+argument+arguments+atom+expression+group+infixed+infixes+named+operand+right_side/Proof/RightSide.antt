@@ -9,7 +9,6 @@ use borrow.Author.Needs.{needs}
 use Rattle.reader.proofs.+argument+arguments+atom+expression+group+infixed+infixes+named+operand+right_side.Proof.Measures as measures
 use Rattle.reader.proofs.expression.Reads as expression
 use Rattle.reader.proofs.right_side.Reads as right-side
-use Rattle.reader.proofs.shortcut.again.Reads as again-reads
 use Rattle.reader.proofs.shortcut.single_token.Reads as single-token-reads
 use Rattle.reader.proofs.shortcut.single_token_operand.Reads as single-token-operand-reads
 use Rattle.reader.proofs.+argument+arguments+atom+expression+group+infixed+infixes+named+operand+right_side.Lts-right_side as right-side-lts
@@ -23,8 +22,6 @@ calls t = (
   single-token-reads.Learnt,
   measures.expression-below t,
   expression.Post,
-  again-reads.Asked,
-  again-reads.Learnt,
 )
 
 pub right-side-single-token-operand-requires : (t : ℕ) → right-side-lts.Need-single-token-operand-requires (calls t) (measures.right-side-at t) right-side.Post
@@ -52,13 +49,10 @@ right-side-expression-requires t c κs =
     let pre = c .before .before .before .before .before .before .pre in
     (omega (arith, pre .0), pre .1)
 
-pub right-side-again-requires : (t : ℕ) → right-side-lts.Need-again-requires (calls t) (measures.right-side-at t) right-side.Post
-right-side-again-requires t c κs = search needs
-
 pub right-side-same-length-2 : (t : ℕ) → right-side-lts.Need-same-length-2 (calls t) (measures.right-side-at t) right-side.Post
 right-side-same-length-2 t c = search needs
 
 pub right-side-returns-2 : (t : ℕ) → right-side-lts.Need-returns-2 (calls t) (measures.right-side-at t) right-side.Post
 right-side-returns-2 t c =
-    let the-expression = c .before .before .before .expression in
-    rw (c .again .ensures) (the-expression .ensures)
+    let the-expression = c .before .before .expression in
+    the-expression .ensures

@@ -21,17 +21,14 @@ returns c =
 postfixes-requires : tie.Need-postfixes-requires
 postfixes-requires c κs = search needs
 
-again-requires : tie.Need-again-requires
-again-requires c κs = search needs
-
 same-length : tie.Need-same-length
 same-length c = search needs
 
 returns-2 : tie.Need-returns-2
 returns-2 c =
-    let the-postfixes = c .before .before .before .postfixes in
-    rw (c .again .ensures) (the-postfixes .ensures)
+    let the-postfixes = c .before .before .postfixes in
+    the-postfixes .ensures
 
 pub any-postfixes-spec : {M : Type 1} → statement M
 any-postfixes-spec =
-    tie.close (tie.spec postfix-at-requires returns postfixes-requires again-requires same-length returns-2)
+    tie.close (tie.spec postfix-at-requires returns postfixes-requires same-length returns-2)

@@ -21,16 +21,13 @@ enum-known-x c = search needs
 numeral-requires : tie.Need-numeral-requires
 numeral-requires c κs = search needs
 
-again-requires : tie.Need-again-requires
-again-requires c κs = search needs
-
 same-length : tie.Need-same-length
 same-length c = search needs
 
 returns : tie.Need-returns
 returns c =
-    let the-numeral = c .before .before .before .numeral in
-    rw (c .again .ensures) (the-numeral .ensures)
+    let the-numeral = c .before .before .numeral in
+    the-numeral .ensures
 
 push-leaf-requires : tie.Need-push-leaf-requires
 push-leaf-requires c κs = search needs
@@ -58,7 +55,6 @@ digits-only-numeral-spec =
     digits-only-requires
     enum-known-x
     numeral-requires
-    again-requires
     same-length
     returns
     push-leaf-requires
