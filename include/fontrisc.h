@@ -231,8 +231,8 @@ uint32_t fontrisc_lookup(
     uint64_t *column, uint64_t *count);
 
 /* Hands out value `n` of such a lookup (FORMAT 9.5) as kind, x and y of a
- * constant's row, FONTRISC_ROW_NULL to FONTRISC_ROW_STRING. Each call goes through
- * all rows. After a refusal: the place, 0 and 0. */
+ * constant, FONTRISC_ROW_NULL to FONTRISC_ROW_STRING. Each call goes through all
+ * rows. After a refusal: the place, 0 and 0. */
 uint32_t fontrisc_value(
     const uint8_t *text, size_t text_len,
     const uint64_t *rows, size_t rows_len,

@@ -76,14 +76,14 @@ pub fn ratio(ours: f64, theirs: f64) -> String {
 }
 
 /// Prints a row of a table.
-pub fn row<S: AsRef<str>>(cells: &[S]) {
+pub fn print_row<S: AsRef<str>>(cells: &[S]) {
     let cells: Vec<&str> = cells.iter().map(AsRef::as_ref).collect();
     println!("| {} |", cells.join(" | "));
 }
 
 /// Prints the head of a table: the names of its columns, the first to the left.
-pub fn head(names: &[&str]) {
-    row(names);
+pub fn print_head(names: &[&str]) {
+    print_row(names);
     let lines: Vec<&str> = (0..names.len()).map(|n| if n == 0 { "---" } else { "---:" }).collect();
     println!("|{}|", lines.join("|"));
 }

@@ -3,10 +3,10 @@
 //! `bench stack`: how much stack the library's calls need.
 
 mod clock;
-mod looking;
-mod reading;
+mod lookup;
+mod parse;
 mod shapes;
-mod splitting;
+mod split;
 mod stack;
 
 use std::process::ExitCode;
@@ -14,7 +14,7 @@ use std::process::ExitCode;
 /// Prints a table of times, or all of them; false if there is no such table.
 fn tables(which: Option<&str>) -> bool {
     let all: &[(&str, fn())] =
-        &[("parse", reading::table), ("split", splitting::table), ("lookup", looking::table)];
+        &[("parse", parse::table), ("split", split::table), ("lookup", lookup::table)];
     let asked = |name: &str| which.is_none_or(|which| which == name);
     let chosen: Vec<_> = all.iter().filter(|(name, _)| asked(name)).collect();
     // The original recurses as deep as its trees are, when it frees them too.

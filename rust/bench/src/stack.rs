@@ -164,14 +164,14 @@ fn predicate_calls(name: &str, rows: Vec<u64>) -> [Measured; 3] {
 /// Measures every call and prints the table.
 pub fn table() -> ExitCode {
     println!("## stack\n\nTo the next page of {PAGE} bytes.\n");
-    crate::clock::head(&["entry and input", "stack"]);
+    crate::clock::print_head(&["entry and input", "stack"]);
     let (done, wait) = mpsc::channel::<()>();
     let wait = std::sync::Mutex::new(wait);
     let mut most = BTreeMap::new();
     let measured = thread::scope(|scope| {
         let measured = calls().into_iter().try_for_each(|(entry, name, call)| {
             let kilobytes = depth(scope, call, &wait)?.div_ceil(1_024);
-            crate::clock::row(&[format!("{entry}: {name}"), format!("{kilobytes} KB")]);
+            crate::clock::print_row(&[format!("{entry}: {name}"), format!("{kilobytes} KB")]);
             let so_far: &mut usize = most.entry(entry).or_default();
             *so_far = kilobytes.max(*so_far);
             Some(())

@@ -2,9 +2,11 @@
 //! tokens, bytes, tables and lists.
 
 use crate::{parse, split};
-use fontrisc::predicate::{AND, COLUMN, OR, STRING};
+use fontrisc::predicate::{AND, COLUMN, LIKE, OR, STRING};
 use fontrisc::token::{IDENT, NUMBER, OPEN_PAREN, WRITE};
-use oracle::cases::{Predicate, Tokens, Tree, binary, not, predicate_of, words};
+use oracle::cases::{
+    Predicate, Tokens, Tree, chain, joined_chains, not, or_of_ands, predicate_of, words,
+};
 use oracle::layout::{ROW_WIDTH, Row, TOKEN_WIDTH, table_of, token_count};
 use oracle::plain::{self, limit};
 
@@ -25,7 +27,7 @@ const WAYS: [(&str, &str); 9] = [
 pub fn of_parse() -> Vec<parse::Case> {
     let mut tables = Vec::new();
     for (open, close) in WAYS {
-        for levels in 20..=66 {
+        for levels in 20..=limit::LEVELS + 2 {
             for inner in ["a ", "f ( ) ", "1x ", "; ", ""] {
                 let line = [&open.repeat(levels), inner, &close.repeat(levels)].concat();
                 tables.push(words(&line));
@@ -38,26 +40,30 @@ pub fn of_parse() -> Vec<parse::Case> {
     tables.into_iter().flat_map(with_tables).collect()
 }
 
-/// Expressions of about 2,048 rows.
+/// Half of the rows that are allowed: an operator with its right side is two rows, and
+/// so is IS NOT NULL.
+const HALF: usize = limit::ROWS / 2;
+
+/// Expressions of about as many rows as allowed.
 fn many_rows() -> Vec<Tokens> {
     let joined = |part: &str, between: &str, count: usize| vec![part; count].join(between);
     let mut tables = Vec::new();
-    for count in 1_023..=1_026 {
+    for count in HALF - 1..=HALF + 2 {
         tables.push(words(&joined("1", " + ", count)));
         tables.push(words(&format!("- {}", joined("a", " OR ", count))));
         tables.push(words(&joined("t . c", " * ", count)));
     }
-    for count in 2_045..=2_050 {
+    for count in limit::ROWS - 3..=limit::ROWS + 2 {
         tables.push(words(&format!("f ( {} )", joined("x", " , ", count))));
         tables.push(words(&format!("1 {}", "! ".repeat(count))));
     }
-    for count in 1_022..=1_025 {
+    for count in HALF - 2..=HALF + 1 {
         tables.push(words(&format!("a {}", "IS NOT NULL ".repeat(count))));
     }
     tables
 }
 
-/// Tables of about 4,096 tokens, whole and ragged.
+/// Tables of about as many tokens as allowed, whole and ragged.
 fn many_tokens() -> Vec<Tokens> {
     let mut tables = Vec::new();
     let most = TOKEN_WIDTH * limit::TOKENS;
@@ -70,7 +76,7 @@ fn many_tokens() -> Vec<Tokens> {
     tables
 }
 
-/// Texts of about 16,384 bytes, with spans up to their ends and past them.
+/// Texts about as long as allowed, with spans up to their ends and past them.
 fn long_texts() -> Vec<Tokens> {
     let mut tables = Vec::new();
     for length in limit::TEXT - 1..=limit::TEXT + 1 {
@@ -105,12 +111,12 @@ fn with_tables(made: Tokens) -> impl Iterator<Item = parse::Case> {
 pub fn of_split() -> Vec<split::Case> {
     let mut all = Vec::new();
     for sizes in PRODUCTS {
-        let tree = joined(OR, AND, sizes);
+        let tree = or_of_ands(sizes);
         all.push(predicate_of(&tree));
-        all.push(predicate_of(&not(joined(AND, OR, sizes))));
+        all.push(predicate_of(&not(joined_chains(AND, OR, sizes))));
         all.push(predicate_of(&not(not(tree))));
     }
-    for atoms in [1_022, 1_023, 1_024] {
+    for atoms in HALF as u64 - 2..=HALF as u64 {
         all.push(predicate_of(&chain(AND, atoms)));
         all.push(predicate_of(&chain(OR, atoms)));
         all.push(predicate_of(&not(chain(AND, atoms))));
@@ -144,29 +150,18 @@ const PRODUCTS: [&[u64]; 9] = [
     &[2, 2, 2, 2, 2, 2, 4, 4],
     &[2, 2, 2, 2, 2, 2, 2, 2, 4],
     &[2, 2, 2, 2, 2, 2, 2, 2, 2],
-    &[1, 1_024],
-    &[1_023, 1],
+    &[1, limit::CLAUSES],
+    &[limit::CLAUSES - 1, 1],
     &[1_000, 1, 1, 1, 1, 1, 1],
 ];
 
-/// Chains of the inner kind, joined by the outer one.
-fn joined(outer: u64, inner: u64, sizes: &[u64]) -> Tree {
-    let parts = sizes.iter().map(|size| chain(inner, *size));
-    parts.reduce(|left, right| binary(outer, left, right)).expect("there are parts")
-}
-
-/// A chain of one kind over columns.
-fn chain(kind: u64, atoms: u64) -> Tree {
-    (1..atoms).fold(Tree::Column(0), |tree, n| binary(kind, tree, Tree::Column(n)))
-}
-
 /// Numbers at the edges of what a row may hold.
 const NUMBERS: [u64; 12] =
-    [0, 1, 2, 3, 4, 5, 65_535, 65_536, 1 << 32, 1 << 63, u64::MAX - 1, u64::MAX];
+    [0, 1, 2, 3, 4, 5, limit::COLUMN, limit::COLUMN + 1, 1 << 32, 1 << 63, u64::MAX - 1, u64::MAX];
 
 /// Single rows, alone and over a column, with such numbers in them.
 fn numbers() -> impl Iterator<Item = Vec<u64>> {
-    let kinds = (0..=26).chain([1 << 32, u64::MAX]);
+    let kinds = (0..=LIKE + 2).chain([1 << 32, u64::MAX]);
     let pairs = kinds.flat_map(|kind| NUMBERS.iter().map(move |x| (kind, *x)));
     let rows = pairs.flat_map(|(kind, x)| NUMBERS.iter().map(move |y| Row::new(kind, x, *y)));
     let column = Row::new(COLUMN, 0, 0);

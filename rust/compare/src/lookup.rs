@@ -4,7 +4,7 @@ use crate::entries::{LooksUp, Rules};
 use crate::original::{self, Verdict};
 use crate::predicates;
 use crate::run::{Comparison, Outcome};
-use crate::shrink::{Shrinks, lower};
+use crate::shrink::{Shrinks, smaller_numbers};
 use crate::split::write_predicate;
 use oracle::cases::{Dice, Predicate, predicate_of};
 use oracle::expression::Clause;
@@ -120,8 +120,8 @@ fn verdict_on_value(made: &[Clause], case: &Case, number: u32, ours: Option<Cons
 
 impl Shrinks for Case {
     fn smaller(&self) -> Box<dyn Iterator<Item = Case> + '_> {
-        let n = lower(self.n).map(|n| Case { n, ..self.clone() });
-        let clause = lower(self.clause).map(|clause| Case { clause, ..self.clone() });
+        let n = smaller_numbers(self.n).map(|n| Case { n, ..self.clone() });
+        let clause = smaller_numbers(self.clause).map(|clause| Case { clause, ..self.clone() });
         let fewer =
             predicates::fewer(&self.text, &self.rows).flat_map(|Predicate { text, rows }| {
                 let case = |(clause, n)| Case { text: text.clone(), rows: rows.clone(), clause, n };

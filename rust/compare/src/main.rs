@@ -8,6 +8,7 @@ use compare::parse::Parse;
 use compare::run::{self, Chosen, Ran};
 use compare::split::Split;
 use compare::{edges, predicates};
+use oracle::cases::{EVERY, PARTS};
 use std::process::ExitCode;
 use std::time::Instant;
 
@@ -36,8 +37,8 @@ fn run(entry: &str, which: Which) -> Option<Ran> {
         ("parse", Which::Edges) => {
             run::listed(&mut Parse::of(&Library), edges::of_parse().into_iter())
         }
-        ("parse", Which::Exhaustive(longest)) => run::every_string(&Library, run::EVERY, longest),
-        ("parse", Which::Parts(longest)) => run::every_string(&Library, run::PARTS, longest),
+        ("parse", Which::Exhaustive(longest)) => run::every_string(&Library, EVERY, longest),
+        ("parse", Which::Parts(longest)) => run::every_string(&Library, PARTS, longest),
         ("split", Which::Edges) => {
             run::listed(&mut Split::of(&Library), edges::of_split().into_iter())
         }

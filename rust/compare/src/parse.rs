@@ -4,7 +4,7 @@ use crate::entries::{Reads, Rules};
 use crate::lent::Lent;
 use crate::original::{self, Verdict};
 use crate::run::{Comparison, Outcome};
-use crate::shrink::{Shrinks, cuts, lower, packed_tokens, smaller_spans};
+use crate::shrink::{Shrinks, cuts, smaller_numbers, smaller_spans, tokens_without_unused_bytes};
 use fontrisc::token::{CLOSE_PAREN, IDENT, NUMBER, OPEN_PAREN, OR, STRING, WRITE};
 use oracle::layout::{ROW_WIDTH, TOKEN_WIDTH, token_count};
 use oracle::plain::{self, limit};
@@ -95,26 +95,26 @@ impl Shrinks for Case {
         let count = token_count(&self.tokens);
         let needed = self.needed();
         let cut = cuts(count).map(|cut| self.without(cut));
-        let opened = self.pairs().into_iter().flat_map(|(open, close)| self.opened(open, close));
-        let tokens = cut.chain(opened).flat_map(move |fewer| {
-            let suited = needed.and_then(|needed| fewer.suited(needed));
-            [Some(fewer), suited].into_iter().flatten()
+        let unwrapped = self
+            .pairs()
+            .into_iter()
+            .flat_map(|(open, close)| self.without_parentheses(open, close));
+        let tokens = cut.chain(unwrapped).flat_map(move |fewer| {
+            let matching = needed.and_then(|needed| fewer.with_matching_table(needed));
+            [Some(fewer), matching].into_iter().flatten()
         });
         let ragged = (!self.tokens.len().is_multiple_of(TOKEN_WIDTH))
             .then(|| Case { tokens: self.tokens[..TOKEN_WIDTH * count].to_vec(), ..self.clone() });
-        let slots = lower(self.slots).map(|slots| Case { slots, ..self.clone() });
-        let packed = packed_tokens(&self.text, &self.tokens).map(|(text, tokens)| Case {
-            text,
-            tokens,
-            ..self.clone()
-        });
-        let text = lower(self.text.len())
+        let slots = smaller_numbers(self.slots).map(|slots| Case { slots, ..self.clone() });
+        let used_bytes = tokens_without_unused_bytes(&self.text, &self.tokens)
+            .map(|(text, tokens)| Case { text, tokens, ..self.clone() });
+        let text = smaller_numbers(self.text.len())
             .map(|length| Case { text: self.text[..length].to_vec(), ..self.clone() });
         let spans = (0..count).filter_map(|n| self.with_plain_span(n));
         let shorter =
             smaller_spans(&self.text, &self.tokens).map(|tokens| Case { tokens, ..self.clone() });
         let tokens = self.with_empty_spans().into_iter().chain(tokens).chain(ragged);
-        Box::new(tokens.chain(slots).chain(packed).chain(text).chain(spans).chain(shorter))
+        Box::new(tokens.chain(slots).chain(used_bytes).chain(text).chain(spans).chain(shorter))
     }
 }
 
@@ -141,7 +141,7 @@ impl Case {
 
     /// The case without a pair of parentheses, and without the name before it too
     /// if there is one.
-    fn opened(&self, open: usize, close: usize) -> impl Iterator<Item = Case> + use<> {
+    fn without_parentheses(&self, open: usize, close: usize) -> impl Iterator<Item = Case> + use<> {
         let without = self.without(close..close + 1).without(open..open + 1);
         let name = open.checked_sub(1).filter(|name| self.tokens[TOKEN_WIDTH * name] == IDENT);
         let bare = name.map(|name| without.without(name..name + 1));
@@ -156,7 +156,7 @@ impl Case {
 
     /// The case with its table as much longer or shorter than needed as it was
     /// when so many numbers were.
-    fn suited(&self, needed: usize) -> Option<Case> {
+    fn with_matching_table(&self, needed: usize) -> Option<Case> {
         let slots = (self.needed()? + self.slots).checked_sub(needed)?;
         (slots != self.slots).then(|| Case { slots, ..self.clone() })
     }

@@ -1,6 +1,6 @@
 //! Predicates by chance, every small one, and smaller ones from large ones.
 
-use crate::shrink::{cuts, lower, packed};
+use crate::shrink::{cuts, smaller_numbers, without_unused_bytes};
 use crate::split::Case;
 use fontrisc::predicate::{AND, COLUMN, LIKE, NEGATE, NOT, NULL, OR, STRING};
 use oracle::cases::*;
@@ -53,7 +53,7 @@ fn looking(dice: &mut Dice) -> Tree {
 }
 
 /// A chain of one kind over columns, to the left, to the right or balanced.
-fn chain(dice: &mut Dice, kind: u64, atoms: usize) -> Tree {
+fn random_chain(dice: &mut Dice, kind: u64, atoms: usize) -> Tree {
     let lean = dice.below(3);
     leaning(lean, kind, 0, atoms.max(1) as u64)
 }
@@ -90,7 +90,7 @@ fn product(dice: &mut Dice) -> Tree {
         &[3, 3, 3, 3, 3, 3],
     ];
     let sizes = dice.pick(shapes);
-    let mut parts = sizes.iter().map(|size| chain(dice, inner, *size)).collect::<Vec<_>>();
+    let mut parts = sizes.iter().map(|size| random_chain(dice, inner, *size)).collect::<Vec<_>>();
     while parts.len() > 1 {
         let at = dice.below(parts.len() - 1);
         let right = parts.remove(at + 1);
@@ -105,11 +105,11 @@ fn product(dice: &mut Dice) -> Tree {
 fn medium(dice: &mut Dice) -> Tree {
     let outer = dice.pick(&[AND, OR]);
     let parts = 1 + dice.below(3);
-    let mut tree = chain(dice, outer, 1);
+    let mut tree = random_chain(dice, outer, 1);
     for _ in 0..parts {
         let inner = dice.pick(&[AND, OR]);
         let atoms = 1 + dice.below(12);
-        let part = chain(dice, inner, atoms);
+        let part = random_chain(dice, inner, atoms);
         let part = if dice.below(3) == 0 { not(part) } else { part };
         tree = binary(outer, tree, part);
     }
@@ -132,17 +132,18 @@ fn dressed(tree: &Tree, dice: &mut Dice) -> Tree {
 
 /// A tree with about as many rows as allowed.
 fn long(dice: &mut Dice) -> Tree {
-    let atoms = [1_024, 1_023, 1_022, 1_000, 511, 200];
-    let atoms = dice.pick(&atoms);
+    // A chain has twice as many rows as atoms, but for one.
+    let most = limit::ROWS / 2;
+    let atoms = dice.pick(&[most, most - 1, most - 2, 1_000, 511, 200]);
     let (kind, other) = dice.pick(&[(AND, OR), (OR, AND)]);
     let tree = match dice.below(6) {
-        0 => chain(dice, kind, atoms),
+        0 => random_chain(dice, kind, atoms),
         1 => {
-            let left = chain(dice, kind, atoms - 1);
+            let left = random_chain(dice, kind, atoms - 1);
             binary(other, left, Tree::Column(9))
         }
         2 => {
-            let right = chain(dice, kind, atoms - 1);
+            let right = random_chain(dice, kind, atoms - 1);
             binary(other, Tree::Column(9), right)
         }
         3 => (0..2 * atoms - 1).fold(Tree::Column(0), |tree, _| not(tree)),
@@ -156,6 +157,10 @@ fn long(dice: &mut Dice) -> Tree {
     (0..nots).fold(tree, |tree, _| not(tree))
 }
 
+/// Numbers that do damage in a row: small ones, and those past a bound.
+const ODD_NUMBERS: [u64; 8] =
+    [0, 1, 2, LIKE + 1, limit::COLUMN, limit::COLUMN + 1, 1 << 32, u64::MAX];
+
 /// A predicate with a few numbers changed, rows dropped or swapped, or a ragged
 /// end.
 fn damaged(dice: &mut Dice, mut made: Predicate) -> Predicate {
@@ -168,7 +173,7 @@ fn damaged(dice: &mut Dice, mut made: Predicate) -> Predicate {
         match dice.below(9) {
             0 => made.rows[at] = made.rows[at].wrapping_add(1),
             1 => made.rows[at] = made.rows[at].wrapping_sub(1),
-            2 => made.rows[at] = dice.pick(&[0, 1, 2, 25, 65_535, 65_536, 1 << 32, u64::MAX]),
+            2 => made.rows[at] = dice.pick(&ODD_NUMBERS),
             3 => made.rows[row] = 1 + dice.below(LIKE as usize + 1) as u64,
             4 => drop(made.rows.drain(row..(row + ROW_WIDTH).min(made.rows.len()))),
             5 => made.rows.truncate(at),
@@ -212,17 +217,17 @@ fn odd(dice: &mut Dice) -> Predicate {
 pub fn every_small(atoms: usize) -> impl Iterator<Item = Case> {
     let nots = [9, 4, 2, 2, 1];
     let counts = (1..=atoms.min(nots.len())).flat_map(move |count| {
-        let shapes = shapes(0, count as u64, nots[count - 1]);
-        shapes.into_iter().enumerate()
+        let trees = every_tree(0, count as u64, nots[count - 1]);
+        trees.into_iter().enumerate()
     });
     counts.flat_map(|(n, tree)| {
         let other = dressed(&tree, &mut Dice::new(n as u64));
-        [tree, other].into_iter().flat_map(move |tree| around(predicate_of(&tree), n))
+        [tree, other].into_iter().flat_map(move |tree| with_list_lengths(predicate_of(&tree), n))
     })
 }
 
 /// A predicate with lists just long enough, one too short, and a little longer.
-fn around(made: Predicate, n: usize) -> impl Iterator<Item = Case> {
+fn with_list_lengths(made: Predicate, n: usize) -> impl Iterator<Item = Case> {
     let (clauses, literals) = counts(&made);
     let lengths = [
         (literals, clauses),
@@ -253,9 +258,9 @@ pub fn fewer(text: &[u8], rows: &[u64]) -> std::vec::IntoIter<Predicate> {
 /// Smaller predicates, the boldest first: an operand in the place of a row, a
 /// column in the place of a row, rows cut out, less text, shorter strings.
 pub fn smaller(made: &Predicate) -> Box<dyn Iterator<Item = Predicate> + '_> {
-    let text = lower(made.text.len())
+    let text = smaller_numbers(made.text.len())
         .map(|length| Predicate { text: made.text[..length].to_vec(), rows: made.rows.clone() });
-    let text = with_packed_text(made).into_iter().chain(text).chain(with_shorter_strings(made));
+    let text = without_unused_text(made).into_iter().chain(text).chain(with_shorter_strings(made));
     let Some(starts) = starts(made) else {
         let cut = cuts(made.rows.len()).map(|cut| {
             let mut rows = made.rows.clone();
@@ -287,9 +292,9 @@ fn with_row(made: &Predicate, r: usize, row: Row) -> Predicate {
 }
 
 /// The predicate without the bytes that no string uses.
-fn with_packed_text(made: &Predicate) -> Option<Predicate> {
+fn without_unused_text(made: &Predicate) -> Option<Predicate> {
     let spans: Vec<_> = strings(made).map(|(_, string)| (string.x, string.y)).collect();
-    let (text, spans) = packed(&made.text, &spans)?;
+    let (text, spans) = without_unused_bytes(&made.text, &spans)?;
     let moved = strings(made).zip(spans).fold(made.clone(), |made, ((r, string), (x, y))| {
         with_row(&made, r, Row { x, y, ..string })
     });
@@ -299,7 +304,7 @@ fn with_packed_text(made: &Predicate) -> Option<Predicate> {
 /// The predicate with one of its strings cut short.
 fn with_shorter_strings(made: &Predicate) -> impl Iterator<Item = Predicate> {
     strings(made).flat_map(move |(r, string)| {
-        let lengths = lower(string.y as usize);
+        let lengths = smaller_numbers(string.y as usize);
         lengths.map(move |length| with_row(made, r, Row { y: length as u64, ..string }))
     })
 }

@@ -194,14 +194,6 @@ pub fn listed<C: Comparison>(comparison: &mut C, cases: impl Iterator<Item = C::
     Ok(tally)
 }
 
-/// A token for each kind that expressions use, the number in three spellings,
-/// and one that they do not use: 34.
-pub const EVERY: &str = "1 1.5 1x 'x a OR AND = != <> LIKE > >= < <= + - * / % ^ ! IS NOT NULL \
-                         NAN TRUE FALSE INFINITY ( ) , . ;";
-
-/// One token for each part that a token can play: 19.
-pub const PARTS: &str = "1 a OR AND = < + - * ^ ! IS NOT NULL NAN ( ) , .";
-
 /// Compares every string of up to `longest` tokens out of those given as words.
 ///
 /// Each is read twice: into a table with room for every row, where the original

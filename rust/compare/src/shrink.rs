@@ -36,7 +36,7 @@ pub fn cuts(count: usize) -> impl Iterator<Item = Range<usize>> {
 /// Numbers to try in the place of a larger one: none of it, half of it, three
 /// quarters and so on, a row less and one less. So few steps lead to the smallest
 /// number that will do, however large the first one is.
-pub fn lower(number: usize) -> impl Iterator<Item = usize> {
+pub fn smaller_numbers(number: usize) -> impl Iterator<Item = usize> {
     let parts = std::iter::successors(Some(number), |part| Some(part / 2));
     let tries = parts.take_while(|part| *part > 1).map(move |part| number - part);
     let near = [number.saturating_sub(ROW_WIDTH), number.saturating_sub(1)];
@@ -49,7 +49,7 @@ pub type Span = (u64, u64);
 /// A text without the bytes that lie in no span that fits, and the spans over what
 /// is left; none if all bytes are used. What reached past the text still does, by
 /// as much.
-pub fn packed(text: &[u8], spans: &[Span]) -> Option<(Vec<u8>, Vec<Span>)> {
+pub fn without_unused_bytes(text: &[u8], spans: &[Span]) -> Option<(Vec<u8>, Vec<Span>)> {
     let used = used(text.len(), spans);
     let kept: Vec<u8> =
         text.iter().zip(&used).filter(|(_, used)| **used).map(|(b, _)| *b).collect();
@@ -82,10 +82,10 @@ fn used(length: usize, spans: &[Span]) -> Vec<bool> {
 }
 
 /// A text and a token table over it without the bytes that no token uses.
-pub fn packed_tokens(text: &[u8], tokens: &[u32]) -> Option<(Vec<u8>, Vec<u32>)> {
+pub fn tokens_without_unused_bytes(text: &[u8], tokens: &[u32]) -> Option<(Vec<u8>, Vec<u32>)> {
     let spans = tokens.as_chunks::<TOKEN_WIDTH>().0.iter();
     let spans = spans.map(|[_, start, length]| (u64::from(*start), u64::from(*length)));
-    let (text, spans) = packed(text, &spans.collect::<Vec<_>>())?;
+    let (text, spans) = without_unused_bytes(text, &spans.collect::<Vec<_>>())?;
     let mut tokens = tokens.to_vec();
     for ([_, span @ ..], (start, length)) in
         tokens.as_chunks_mut::<TOKEN_WIDTH>().0.iter_mut().zip(spans)
@@ -102,9 +102,9 @@ pub fn smaller_spans<'a>(text: &'a [u8], tokens: &'a [u32]) -> impl Iterator<Ite
     let fits = |start: u32, length: u32| start as usize + length as usize <= text.len();
     let fitting = spans.filter(move |(_, [_, start, length])| fits(*start, *length));
     let smaller = fitting.flat_map(|(n, [_, start, length])| {
-        let ends = lower(*length as usize).map(|length| [*start, length as u32]);
+        let ends = smaller_numbers(*length as usize).map(|length| [*start, length as u32]);
         let later = (*length > 1).then(|| [start + 1, length - 1]);
-        let starts = lower(*start as usize).map(|start| [start as u32, *length]);
+        let starts = smaller_numbers(*start as usize).map(|start| [start as u32, *length]);
         ends.chain(later).chain(starts).map(move |span| (n, span))
     });
     smaller.map(|(n, span)| {

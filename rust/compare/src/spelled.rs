@@ -3,7 +3,7 @@
 use crate::entries::{Reads, Rules};
 use crate::original::Verdict;
 use crate::run::{Comparison, Outcome};
-use crate::shrink::{Shrinks, cuts, lower, packed_tokens, smaller_spans};
+use crate::shrink::{Shrinks, cuts, smaller_numbers, smaller_spans, tokens_without_unused_bytes};
 use crate::tokens;
 use oracle::cases::Dice;
 use oracle::layout::{TOKEN_WIDTH, token_count};
@@ -68,17 +68,14 @@ impl Shrinks for Case {
             .tokens
             .split_last()
             .map(|(_, tokens)| Case { tokens: tokens.to_vec(), ..self.clone() });
-        let n = lower(self.n).map(|n| Case { n, ..self.clone() });
-        let text = lower(self.text.len())
+        let n = smaller_numbers(self.n).map(|n| Case { n, ..self.clone() });
+        let text = smaller_numbers(self.text.len())
             .map(|length| Case { text: self.text[..length].to_vec(), ..self.clone() });
-        let packed = packed_tokens(&self.text, &self.tokens).map(|(text, tokens)| Case {
-            text,
-            tokens,
-            ..self.clone()
-        });
+        let used_bytes = tokens_without_unused_bytes(&self.text, &self.tokens)
+            .map(|(text, tokens)| Case { text, tokens, ..self.clone() });
         let spans =
             smaller_spans(&self.text, &self.tokens).map(|tokens| Case { tokens, ..self.clone() });
-        Box::new(tokens.chain(ragged).chain(n).chain(packed).chain(text).chain(spans))
+        Box::new(tokens.chain(ragged).chain(n).chain(used_bytes).chain(text).chain(spans))
     }
 }
 

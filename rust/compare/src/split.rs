@@ -5,7 +5,7 @@ use crate::lent::Lent;
 use crate::original::{self, Verdict};
 use crate::predicates;
 use crate::run::{Comparison, Outcome};
-use crate::shrink::{Shrinks, lower};
+use crate::shrink::{Shrinks, smaller_numbers};
 use oracle::cases::{Dice, Predicate};
 use oracle::layout::ROW_WIDTH;
 use std::fmt::{Display, Formatter};
@@ -27,13 +27,13 @@ pub struct Case {
 pub fn random_case(dice: &mut Dice) -> Case {
     let made = predicates::random_predicate(dice);
     let (clauses, literals) = predicates::counts(&made);
-    let literals = near(dice, literals);
-    let ends = near(dice, clauses);
+    let literals = length_near(dice, literals);
+    let ends = length_near(dice, clauses);
     Case { text: made.text, rows: made.rows, literals, ends }
 }
 
 /// A length for a list that needs so many places.
-fn near(dice: &mut Dice, needed: usize) -> usize {
+fn length_near(dice: &mut Dice, needed: usize) -> usize {
     match dice.below(12) {
         0 => needed.saturating_sub(1),
         1 => dice.below(needed + 1),
@@ -126,8 +126,9 @@ impl Shrinks for Case {
     fn smaller(&self) -> Box<dyn Iterator<Item = Case> + '_> {
         let fewer = predicates::fewer(&self.text, &self.rows)
             .map(|Predicate { text, rows }| Case { text, rows, ..self.clone() });
-        let literals = lower(self.literals).map(|literals| Case { literals, ..self.clone() });
-        let ends = lower(self.ends).map(|ends| Case { ends, ..self.clone() });
+        let literals =
+            smaller_numbers(self.literals).map(|literals| Case { literals, ..self.clone() });
+        let ends = smaller_numbers(self.ends).map(|ends| Case { ends, ..self.clone() });
         Box::new(fewer.chain(literals).chain(ends))
     }
 }

@@ -16,9 +16,9 @@ pub fn random_case(dice: &mut Dice) -> Case {
             let case = grown(dice, 40, 8);
             damaged(dice, case)
         }
-        120..145 => soup(dice),
+        120..145 => random_tokens(dice),
         145..165 => spellings(dice),
-        165..183 => ladder(dice),
+        165..183 => near_deepest_level(dice),
         183..196 => bad_table(dice),
         196..199 => long(dice),
         _ => at_the_limits(dice),
@@ -61,7 +61,7 @@ fn damaged(dice: &mut Dice, mut case: Case) -> Case {
 }
 
 /// Tokens in no order.
-fn soup(dice: &mut Dice) -> Case {
+fn random_tokens(dice: &mut Dice) -> Case {
     let count = dice.below(24);
     let mut maker = Maker::new(dice);
     for _ in 0..count {
@@ -92,8 +92,8 @@ fn spellings(dice: &mut Dice) -> Case {
 /// Readings inside one another, close to the deepest level allowed: by
 /// prefixes, right sides, arguments and parentheses in any mixture, or by one
 /// of them alone.
-fn ladder(dice: &mut Dice) -> Case {
-    let levels = 58 + dice.below(10);
+fn near_deepest_level(dice: &mut Dice) -> Case {
+    let levels = limit::LEVELS - 6 + dice.below(10);
     let alone = dice.below(8);
     let mut maker = Maker::new(dice);
     let mut closing = Vec::new();
@@ -175,7 +175,7 @@ fn at_the_limits(dice: &mut Dice) -> Case {
         0 => arguments(&mut maker),
         1 => names(&mut maker),
         2 => {
-            let postfixes = 2_045 + maker.dice.below(5);
+            let postfixes = limit::ROWS - 3 + maker.dice.below(5);
             maker.push(NUMBER);
             (0..postfixes).for_each(|_| maker.push(EXCLAMATION));
         }
@@ -195,9 +195,10 @@ fn at_the_limits(dice: &mut Dice) -> Case {
     case
 }
 
-/// A call: n arguments are 2n + 2 tokens and n + 1 rows, so 2,047 fill both.
+/// A call: n arguments are 2n + 2 tokens and n + 1 rows, so one less than the rows
+/// that are allowed fills both.
 fn arguments(maker: &mut Maker<'_>) {
-    let arguments = 2_044 + maker.dice.below(6);
+    let arguments = limit::ROWS - 4 + maker.dice.below(6);
     maker.all(&[IDENT, OPEN_PAREN]);
     for n in 0..arguments {
         let kinds: &[u32] = if n > 0 { &[COMMA, IDENT] } else { &[IDENT] };
@@ -208,7 +209,7 @@ fn arguments(maker: &mut Maker<'_>) {
 
 /// A chain: n qualified names are 4n - 1 tokens and 2n - 1 rows.
 fn names(maker: &mut Maker<'_>) {
-    let names = 1_022 + maker.dice.below(4);
+    let names = limit::ROWS / 2 - 2 + maker.dice.below(4);
     let operator = maker.dice.pick(&INFIX[..15]).0;
     for n in 0..names {
         if n > 0 {

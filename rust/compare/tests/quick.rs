@@ -7,6 +7,7 @@ use compare::run::{self, Chosen, Ran, Tally};
 use compare::spelled::{self, Spelled};
 use compare::split::{self, Split};
 use compare::{edges, predicates, tokens};
+use oracle::cases::{EVERY, PARTS};
 use oracle::plain::refusal::*;
 
 /// Fewer where the code is not optimised.
@@ -42,14 +43,14 @@ fn came_up(tally: &Tally, refusals: &[u32]) {
 
 #[test]
 fn every_short_string() {
-    let tally = holds(|| run::every_string(&Library, run::EVERY, length(4)));
+    let tally = holds(|| run::every_string(&Library, EVERY, length(4)));
     came_up(&tally, &[END, NO_ATOM, WRONG_TOKEN, LEFT_OVER, BAD_NUMBER]);
     assert_eq!(tally.same, tally.cases);
 }
 
 #[test]
 fn every_string_of_five_parts() {
-    let tally = holds(|| run::every_string(&Library, run::PARTS, length(5)));
+    let tally = holds(|| run::every_string(&Library, PARTS, length(5)));
     assert_eq!(tally.same, tally.cases);
 }
 

@@ -1,6 +1,6 @@
 //! What large cases come down to.
 
-use compare::shrink::{lower, packed, shrink};
+use compare::shrink::{shrink, smaller_numbers, without_unused_bytes};
 use compare::{lookup, parse, split};
 use fontrisc::predicate;
 use oracle::cases::{Tree, and, equal, or, predicate_of, string, words};
@@ -36,13 +36,17 @@ fn parentheses_go_in_pairs() {
 fn bytes_that_nobody_uses_go() {
     // Two spans that share a byte, one that is empty, one past the end by two bytes.
     let spans = [(2, 3), (4, 2), (7, 0), (8, 4)];
-    let (text, moved) = packed(b"0123456789", &spans).expect("some bytes are not used");
+    let (text, moved) =
+        without_unused_bytes(b"0123456789", &spans).expect("some bytes are not used");
     assert_eq!(text, b"2345");
     assert_eq!(moved, [(0, 3), (2, 2), (4, 0), (4, 2)]);
-    assert_eq!(packed(b"abc", &[(0, 2), (1, 2)]), None);
+    assert_eq!(without_unused_bytes(b"abc", &[(0, 2), (1, 2)]), None);
     // What lies wholly past the end, and what has no end.
     let far = [(11, 1), (u64::MAX, 2)];
-    assert_eq!(packed(b"0123456789", &far), Some((vec![], vec![(1, 1), (u64::MAX - 10, 2)])));
+    assert_eq!(
+        without_unused_bytes(b"0123456789", &far),
+        Some((vec![], vec![(1, 1), (u64::MAX - 10, 2)]))
+    );
 }
 
 #[test]
@@ -84,7 +88,7 @@ fn strings_come_to_the_front() {
 fn large_numbers_fall_in_few_steps() {
     for least in [0, 1, 1_000_003, usize::MAX - 1] {
         let (mut number, mut steps) = (usize::MAX, 0);
-        while let Some(smaller) = lower(number).find(|n| *n >= least) {
+        while let Some(smaller) = smaller_numbers(number).find(|n| *n >= least) {
             (number, steps) = (smaller, steps + 1);
         }
         assert_eq!(number, least);

@@ -2,7 +2,8 @@
 //! the library. The starred ones are proved as well, in the crate `worked`.
 
 use fontrisc::{Listed, ROW_WIDTH, Refusal, Refused, Value, limit, lookup, parse, split, value_at};
-use oracle::cases::{Tokens, Tree, and, equal, float, is, not, or, predicate_of, string, words};
+use oracle::cases::*;
+use oracle::examples::{self, Split};
 
 /// A refusal.
 fn refused<T>(why: Refusal, place: usize) -> Result<T, Refused> {
@@ -34,27 +35,19 @@ fn read(line: &str) -> Result<Vec<u64>, Refused> {
 
 #[test]
 fn accepted_expressions() {
-    let rows = |rows: &[[u64; ROW_WIDTH]]| Ok(rows.concat());
-    let powers = [[2, 2, 0], [2, 3, 0], [2, 2, 0], [31, 1, 2], [31, 0, 3]];
-    let rest = [[2, 4, 0], [2, 3, 0], [28, 5, 6], [27, 4, 7]];
-    assert_eq!(read("2 ^ 3 ^ 2 - 4 * 3"), rows(&[&powers[..], &rest[..]].concat()));
-    assert_eq!(read("- 1 !"), rows(&[[2, 1, 0], [13, 0, 0], [15, 1, 0]]));
-    assert_eq!(read("1 + NULL IS NULL"), rows(&[[2, 1, 0], [8, 0, 0], [26, 0, 1], [16, 2, 0]]));
-    assert_eq!(read("a = b < c"), rows(&[[9, 0, 0], [9, 2, 0], [9, 4, 0], [23, 1, 2], [19, 0, 3]]));
-    assert_eq!(read("* * *"), rows(&[[1, 0, 0], [1, 0, 0], [28, 0, 1]]));
-    assert_eq!(read("9223372036854775807"), rows(&[[2, i64::MAX as u64, 0]]));
+    for (line, rows) in examples::READ {
+        assert_eq!(read(line), Ok(rows.concat()), "{line}");
+    }
+    assert_eq!(read("9223372036854775807"), Ok(vec![2, i64::MAX as u64, 0]));
 }
 
 #[test]
 fn refused_expressions() {
-    assert_eq!(read("1 + NOT 3"), refused(Refusal::NoAtom, 2));
-    assert_eq!(read("1 + 2 IS NULL AND TRUE"), refused(Refusal::LeftOver, 5));
+    for (line, number, place) in examples::REFUSED {
+        let why = Refusal::of(number).expect("a refusal's number");
+        assert_eq!(read(line), refused(why, place as usize), "{line}");
+    }
     assert_eq!(read("a = 1 IS NULL AND b"), refused(Refusal::LeftOver, 5));
-    assert_eq!(read("f ( 1 , )"), refused(Refusal::NoAtom, 4));
-    assert_eq!(read(""), refused(Refusal::End, 0));
-    assert_eq!(read("a ."), refused(Refusal::End, 2));
-    assert_eq!(read("a IS 3"), refused(Refusal::WrongToken, 2));
-    assert_eq!(read("9223372036854775808"), refused(Refusal::BadNumber, 0));
 }
 
 /// The deepest reading by each way down, and the first that is too deep: the
@@ -105,33 +98,23 @@ fn clauses(tree: &Tree) -> Result<Vec<Vec<u32>>, Refused> {
         .collect())
 }
 
-/// An OR of conjunctions, each given by how many atoms it has.
-fn or_of_ands(sizes: &[u64]) -> Tree {
-    let conjunction = |n: &u64| (1..*n).fold(Tree::Column(0), |t, c| and(t, Tree::Column(c)));
-    sizes.iter().map(conjunction).reduce(or).expect("there is one")
-}
-
 #[test]
 fn clause_lists() {
-    let [a, b, c, d] = [0, 1, 2, 3].map(Tree::Column);
-    let tree = or(and(a.clone(), b.clone()), and(c.clone(), d.clone()));
-    assert_eq!(clauses(&tree), Ok(vec![vec![0, 6], vec![0, 8], vec![2, 6], vec![2, 8]]));
-    let tree =
-        or(equal(Tree::Column(4), Tree::Integer(7)), not(and(Tree::Column(5), Tree::Column(6))));
-    assert_eq!(clauses(&tree), Ok(vec![vec![4, 7, 9]]));
-    assert_eq!(clauses(&not(not(not(and(a.clone(), b.clone()))))), Ok(vec![vec![1, 3]]));
-    assert_eq!(clauses(&or(or(and(a, b), c), d)), Ok(vec![vec![0, 6, 10], vec![2, 6, 10]]));
+    for Split { tree, clauses: list, .. } in examples::splits() {
+        let narrow = |clause: &Vec<u64>| clause.iter().map(|l| *l as u32).collect();
+        assert_eq!(clauses(&tree), Ok(list.iter().map(narrow).collect()), "{tree:?}");
+    }
 }
 
 #[test]
 fn clause_limits() {
-    let list = clauses(&or_of_ands(&[2, 2, 2, 2, 2, 2, 4, 4])).unwrap();
-    assert_eq!((list.len(), list.concat().len()), (1_024, 8_192));
+    let list = clauses(&or_of_ands(&examples::MOST_LITERALS)).unwrap();
+    assert_eq!((list.len(), list.concat().len()), (limit::CLAUSES, limit::LITERALS));
     // 1,024 clauses of nine literals: 9,216.
-    assert_eq!(clauses(&or_of_ands(&[2, 2, 2, 2, 2, 2, 2, 2, 4])), refused(Refusal::TooMany, 0));
+    assert_eq!(clauses(&or_of_ands(&examples::TOO_MANY_LITERALS)), refused(Refusal::TooMany, 0));
     // 1,025 clauses.
     let most = or_of_ands(&[32, 32]);
-    assert_eq!(clauses(&most).map(|list| list.len()), Ok(1_024));
+    assert_eq!(clauses(&most).map(|list| list.len()), Ok(limit::CLAUSES));
     assert_eq!(clauses(&and(most, Tree::Column(9))), refused(Refusal::TooMany, 0));
 }
 
@@ -149,16 +132,15 @@ fn looked(tree: &Tree) -> Result<(u16, Vec<String>), Refused> {
 
 #[test]
 fn lookups() {
-    let c = || Tree::Column(7);
-    let one = || Tree::Integer(1);
-    let gives = |values: &[&str]| Ok((7, values.iter().map(|v| v.to_string()).collect::<Vec<_>>()));
-    let tree = or(or(equal(c(), one()), is(c(), 0)), equal(Tree::Integer(2), c()));
-    assert_eq!(looked(&tree), gives(&["Integer(1)", "Null", "Integer(2)"]));
-    assert_eq!(looked(&equal(c(), Tree::Null)), gives(&[]));
-    assert_eq!(
-        looked(&or(equal(c(), one()), equal(Tree::Column(8), one()))),
-        refused(Refusal::NotLookup, 0)
-    );
+    for (tree, values) in examples::lookups() {
+        // Both sides' values print alike, but for floats.
+        let said = |values: Vec<_>| values.iter().map(|value| format!("{value:?}")).collect();
+        let expected = match values.map(said) {
+            Some(values) => Ok((examples::LOOKED_UP as u16, values)),
+            None => refused(Refusal::NotLookup, 0),
+        };
+        assert_eq!(looked(&tree), expected, "{tree:?}");
+    }
 }
 
 #[test]

@@ -54,14 +54,15 @@ pub fn code_spans(document: &str) -> Vec<Piece<'_>> {
     spans
 }
 
-/// The anchors of the headings, made as GitHub makes them.
+/// The anchors of the headings, made as GitHub makes them: a heading whose anchor
+/// is taken gets the first number behind it that is free.
 pub fn anchors(document: &str) -> Vec<String> {
     let mut anchors: Vec<String> = Vec::new();
     for Piece { text, .. } in lines(document).filter(|piece| piece.text.starts_with('#')) {
-        let anchor = anchor(text.trim_start_matches('#').trim());
-        let again = anchors.iter().filter(|other| **other == anchor).count();
-        let numbered = format!("{anchor}-{again}");
-        anchors.push(if again > 0 { numbered } else { anchor });
+        let bare = anchor(text.trim_start_matches('#').trim());
+        let numbered = (1..).map(|n| format!("{bare}-{n}"));
+        let free = [bare.clone()].into_iter().chain(numbered).find(|a| !anchors.contains(a));
+        anchors.extend(free);
     }
     anchors
 }
@@ -163,6 +164,8 @@ See [this](one.md#two) and [`that`](../three).
     #[test]
     fn anchors_as_github_makes_them() {
         assert_eq!(anchors(DOCUMENT), ["a-name-and-code", "again", "again-1"]);
+        assert_eq!(anchors("# A\n# A\n## A\n# A\n"), ["a", "a-1", "a-2", "a-3"]);
+        assert_eq!(anchors("# A 1\n# A\n# A\n"), ["a-1", "a", "a-2"]);
         assert_eq!(anchor("§4 Reading: on_and-on (it's `x`)"), "4-reading-on_and-on-its-x");
     }
 

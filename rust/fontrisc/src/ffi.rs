@@ -146,8 +146,11 @@ pub fn lookup(text: &[u8], rows: &[u64], clause: usize) -> (u32, u64, u64) {
     (number, column, count)
 }
 
-/// A constant in numbers: kind, x and y (FORMAT §9.5).
-pub type Constant = [u64; 3];
+/// How many numbers a constant is: kind, x and y (FORMAT §9.5).
+pub const CONSTANT_WIDTH: usize = 3;
+
+/// A constant in numbers.
+pub type Constant = [u64; CONSTANT_WIDTH];
 
 /// `fontrisc_value`: the refusal's number, and the value as a constant, or the
 /// place, 0 and 0.

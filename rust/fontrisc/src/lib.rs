@@ -32,22 +32,22 @@
 //! nothing else is said.
 
 mod ffi;
-mod lookups;
+mod iterators;
+mod lookup;
+mod parse;
 pub mod predicate;
-mod reading;
 mod refusal;
 mod row;
-mod splitting;
+mod split;
 pub mod syntax;
 pub mod token;
-mod walking;
 
-pub use lookups::{Looked, Value, lookup, value_at};
-pub use reading::{parse, spelled};
+pub use iterators::{Literal, clauses, clauses_of, read, values};
+pub use lookup::{LookedUp, Value, lookup, value_at};
+pub use parse::{parse, spelled};
 pub use refusal::{Refusal, Refused};
 pub use row::{ROW_WIDTH, Row, rows};
-pub use splitting::{Listed, split};
-pub use walking::{Literal, clauses, clauses_of, read, values};
+pub use split::{Listed, split};
 
 /// How many numbers a token is in a token table: kind, start and length (FORMAT
 /// §2.2).
@@ -60,7 +60,7 @@ pub mod numbers {
     pub use crate::ffi::*;
 }
 
-/// The largest amounts that the library takes (FORMAT §1.1).
+/// The largest amounts and numbers that the library takes (FORMAT §1.1).
 pub mod limit {
     /// Bytes of text.
     pub const TEXT: usize = 16_384;
@@ -74,6 +74,8 @@ pub mod limit {
     pub const CLAUSES: usize = 1_024;
     /// Literals in all those clauses together.
     pub const LITERALS: usize = 8_192;
+    /// The number of a column in a predicate row.
+    pub const COLUMN: u64 = 65_535;
 }
 
 /// The stack that suffices for a call, in bytes (docs/PERFORMANCE.md, section

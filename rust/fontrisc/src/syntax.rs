@@ -1,4 +1,4 @@
-//! The kinds of syntax rows (FORMAT §5.3), which [`parse`](crate::parse) writes.
+//! The kinds of syntax rows (FORMAT §5.3), which [`parse`](crate::parse()) writes.
 //!
 //! A token or an operand is given by its number. An x or y that is not named is 0.
 

@@ -5,7 +5,7 @@ use fontrisc::predicate::{
 };
 use fontrisc::token::{self, IDENT, NUMBER};
 use fontrisc::{
-    Listed, Looked, Refusal, Refused, Row, Value, clauses, lookup, parse, spelled, split, syntax,
+    Listed, LookedUp, Refusal, Refused, Row, Value, clauses, lookup, parse, spelled, split, syntax,
     value_at, values,
 };
 
@@ -154,7 +154,7 @@ fn five_tests() -> Vec<u64> {
 #[test]
 fn values_of_each_sort() {
     let rows = five_tests();
-    assert_eq!(lookup(b"?no", &rows, 0), Ok(Looked { column: 9, values: 4 }));
+    assert_eq!(lookup(b"?no", &rows, 0), Ok(LookedUp { column: 9, values: 4 }));
     let value = |n| value_at(b"?no", &rows, 0, n);
     assert_eq!(value(0), Ok(Value::String(b"no")));
     assert!(matches!(value(1), Ok(Value::Float(x)) if x.is_nan()));

@@ -180,6 +180,22 @@ fn the_limits_have_their_numbers() {
     }
 }
 
+/// The library's own limits.
+const LIMITS: &str = include_str!("../../../crates/limits/src/lib.rt");
+
+#[test]
+fn the_limits_are_those_of_the_library() {
+    use fontrisc::limit::*;
+    let limits = [TEXT, TOKENS, ROWS, LEVELS, CLAUSES, LITERALS, COLUMN as usize];
+    let names = ["TEXT", "TOKENS", "ROWS", "LEVELS", "CLAUSES", "LITERALS", "COLUMN"];
+    for (name, limit) in names.iter().zip(limits) {
+        let line = format!("pub const {name}_MAX: ");
+        let rest = LIMITS.lines().find_map(|l| l.strip_prefix(&line));
+        let number = rest.and_then(|rest| rest.split([' ', ';']).nth(2)?.parse().ok());
+        assert_eq!(number, Some(limit), "{name}");
+    }
+}
+
 #[test]
 fn the_stacks_have_their_sizes() {
     use fontrisc::stack::*;

@@ -34,7 +34,7 @@ fn in_source(source: &str) -> Names {
 }
 
 /// The kinds of each crate of the library that has some in its `src/kind.rt`,
-/// without the bounds beside them.
+/// without the last one's second name.
 fn in_library() -> Vec<Names> {
     let crates = Path::new(env!("CARGO_MANIFEST_DIR")).join("../../crates");
     let crates = std::fs::read_dir(crates).expect("the crates").flatten();
@@ -44,7 +44,7 @@ fn in_library() -> Vec<Names> {
     });
     let kinds = sources.map(|source| {
         let mut names = in_source(&source);
-        names.retain(|(name, _)| name != "LAST" && name != "COLUMN_MAX");
+        names.retain(|(name, _)| name != "LAST");
         names
     });
     kinds.collect()

@@ -162,6 +162,14 @@ pub fn word_of(kind: u32) -> &'static str {
     }
 }
 
+/// A token for each kind that expressions use, the number in three spellings,
+/// and one that they do not use: 34.
+pub const EVERY: &str = "1 1.5 1x 'x a OR AND = != <> LIKE > >= < <= + - * / % ^ ! IS NOT NULL \
+                         NAN TRUE FALSE INFINITY ( ) , . ;";
+
+/// One token for each part that a token can play: 19.
+pub const PARTS: &str = "1 a OR AND = < + - * ^ ! IS NOT NULL NAN ( ) , .";
+
 /// Seeded chance: the same seed gives the same numbers everywhere.
 #[derive(Clone, Debug)]
 pub struct Dice(u64);
@@ -301,6 +309,22 @@ pub fn is(tree: Tree, y: u64) -> Tree {
     Tree::Is(Box::new(tree), y)
 }
 
+/// A chain of one kind over columns from 0 on, leaning to the left.
+pub fn chain(kind: u64, atoms: u64) -> Tree {
+    (1..atoms).fold(Tree::Column(0), |tree, n| binary(kind, tree, Tree::Column(n)))
+}
+
+/// Chains of the inner kind, each of so many atoms, joined by the outer one.
+pub fn joined_chains(outer: u64, inner: u64, sizes: &[u64]) -> Tree {
+    let chains = sizes.iter().map(|size| chain(inner, *size));
+    chains.reduce(|left, right| binary(outer, left, right)).expect("there is a chain")
+}
+
+/// An OR of conjunctions, each given by how many atoms it has.
+pub fn or_of_ands(sizes: &[u64]) -> Tree {
+    joined_chains(kind::OR, kind::AND, sizes)
+}
+
 /// A float constant.
 pub fn float(value: f64) -> Tree {
     Tree::Float(value.to_bits())
@@ -352,14 +376,14 @@ impl Predicate {
 
 /// Every tree of AND, OR and NOT over `count` columns in order, from number
 /// `first` on, with at most `nots` NOTs directly on each node.
-pub fn shapes(first: u64, count: u64, nots: usize) -> Vec<Tree> {
+pub fn every_tree(first: u64, count: u64, nots: usize) -> Vec<Tree> {
     let mut bare = Vec::new();
     if count == 1 {
         bare.push(Tree::Column(first));
     }
     for left in 1..count {
-        let rights = shapes(first + left, count - left, nots);
-        for l in shapes(first, left, nots) {
+        let rights = every_tree(first + left, count - left, nots);
+        for l in every_tree(first, left, nots) {
             for r in &rights {
                 bare.push(and(l.clone(), r.clone()));
                 bare.push(or(l.clone(), r.clone()));
@@ -395,8 +419,8 @@ pub fn random_tree(dice: &mut Dice, depth: usize, atom: &dyn Fn(&mut Dice) -> Tr
     }
 }
 
-/// A random atom of every sort that is no lookup by accident: comparisons,
-/// arithmetic, constants, columns; now and then a lookup.
+/// A random atom: a third of them of the lookup sort, the others columns, Booleans,
+/// comparisons, and tests for NULL or NaN.
 pub fn random_atom(dice: &mut Dice) -> Tree {
     match dice.below(6) {
         0 => Tree::Column(dice.below(4) as u64),

@@ -42,11 +42,7 @@ const SHALLOW: usize = 64;
 /// The source copies operands when it distributes OR over AND and knows no
 /// limit, so the caller first makes sure that the clause list is a small one.
 pub fn split(text: &[u8], rows: &[u64]) -> Vec<Clause> {
-    if row_count(rows) > SHALLOW {
-        crate::on_large_stack(|| split_here(text, rows))
-    } else {
-        split_here(text, rows)
-    }
+    crate::on_large_stack_if(row_count(rows) > SHALLOW, || split_here(text, rows))
 }
 
 /// The same on the caller's own stack, for one that runs on a large stack
@@ -140,12 +136,12 @@ fn restore(text: &[u8], rows: &[u64], marked: &Expression) -> Expression {
     }
 }
 
-/// What a string constant holds when it is lent to the original.
+/// What a string constant holds when it is handed to the original.
 #[derive(Clone, Copy)]
 enum Strings {
     /// The decimal number of its row: which constant came back is then known.
     Numbered,
-    /// Its bytes, one character for each, so that any bytes can be lent and
+    /// Its bytes, one character for each, so that any bytes can be handed over and
     /// comparing characters is comparing bytes.
     Spelled,
 }
@@ -157,7 +153,7 @@ fn build(text: &[u8], rows: &[u64], r: usize, strings: Strings) -> Expression {
     match kind {
         _ if is_constant(kind) => Expression::Constant(match strings {
             Strings::Numbered if kind == kind::STRING => Cell::String(r.to_string()),
-            _ => lent(&Value::of(text, row.constant())),
+            _ => cell_of(&Value::of(text, row.constant())),
         }),
         kind::COLUMN => Expression::Column(x as usize),
         kind::AND => Expression::And(operand(x), operand(y)),
@@ -185,7 +181,7 @@ fn build(text: &[u8], rows: &[u64], r: usize, strings: Strings) -> Expression {
 }
 
 /// A value as the original takes it, strings one character a byte.
-fn lent(value: &Value) -> Cell {
+fn cell_of(value: &Value) -> Cell {
     match value {
         Value::Null => Cell::Null,
         Value::Boolean(b) => Cell::Boolean(*b),
@@ -204,7 +200,7 @@ fn constant(rows: &[u64], value: &Cell) -> Constant {
         Cell::Float(x) if x.is_nan() => [kind::FLOAT, NAN_BITS, 0],
         Cell::Float(x) => [kind::FLOAT, x.to_bits(), 0],
         Cell::String(number) => {
-            row_at(rows, number.parse().expect("a row number was lent")).constant()
+            row_at(rows, number.parse().expect("a row number was handed over")).constant()
         }
     }
 }
@@ -228,7 +224,7 @@ pub enum Evaluated {
 pub fn evaluate(text: &[u8], rows: &[u64], literal: u64, cells: &[Value]) -> Evaluated {
     let atom = build(text, rows, literal as usize / 2, Strings::Spelled);
     let expression = if literal % 2 == 1 { Expression::Not(Box::new(atom)) } else { atom };
-    let cells: Vec<Cell> = cells.iter().map(lent).collect();
+    let cells: Vec<Cell> = cells.iter().map(cell_of).collect();
     match catch_unwind(AssertUnwindSafe(|| expression.evaluate(Some(&cells)))) {
         Ok(Ok(Cell::Boolean(true))) => Evaluated::Truth(Kleene::True),
         Ok(Ok(Cell::Boolean(false))) => Evaluated::Truth(Kleene::False),

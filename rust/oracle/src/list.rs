@@ -335,12 +335,6 @@ fn plain_atom(n: u64) -> Tree {
     binary(kind::LESS_THAN, Tree::Column(n), Tree::Integer(n as i64))
 }
 
-/// A chain of one kind over atoms, leaning to the left.
-fn chain(kind: u64, atoms: u64) -> Tree {
-    let link = |tree, n| binary(kind, tree, Tree::Column(n));
-    (1..atoms).fold(Tree::Column(0), link)
-}
-
 /// The predicates of the split list.
 fn split_inputs() -> Vec<Tree> {
     let column = Tree::Column;
@@ -360,9 +354,9 @@ fn split_inputs() -> Vec<Tree> {
         // NOT below an atom is the atom's own affair.
         equal(not(column(0)), Tree::Boolean(true)),
     ];
-    trees.extend(shapes(0, 1, 3));
-    trees.extend(shapes(0, 2, 1));
-    trees.extend(shapes(0, 3, 1).into_iter().step_by(3));
+    trees.extend(every_tree(0, 1, 3));
+    trees.extend(every_tree(0, 2, 1));
+    trees.extend(every_tree(0, 3, 1).into_iter().step_by(3));
     let mut dice = Dice::new(2);
     trees.extend((0..60).map(|n| random_tree(&mut dice, 3 + n / 30, &random_atom)));
     trees
@@ -384,7 +378,7 @@ fn lookup_inputs() -> Vec<Tree> {
         not(not(is_one(c()))),
         equal(c(), c()),
         equal(Tree::Integer(1), Tree::Integer(1)),
-        equal(Tree::Column(65_535), string("edge")),
+        equal(Tree::Column(limit::COLUMN), string("edge")),
         or(equal(c(), string("ab")), equal(c(), string("ab"))),
         equal(c(), Tree::String(vec![0xff])),
         equal(c(), Tree::Integer(i64::MIN)),

@@ -9,8 +9,6 @@ use crate::sql::parser::lexer::fixed;
 use crate::sql::parser::parser::{Stopped, read_whole};
 use crate::sql::parser::{Lexer, Progress, Token};
 
-pub use crate::plain::tokens::table_fault;
-
 /// What the original parser makes of a token table.
 #[derive(Clone, Debug, PartialEq, Eq)]
 pub enum Reading {
@@ -28,13 +26,9 @@ const SHALLOW: usize = 100;
 /// Asks the original parser to read a good token table as one expression.
 ///
 /// The parser has no limit on levels or rows, so refusals 1, 2, 8 and 9 never
-/// come from here; [`table_fault`] decides 1 and 2.
+/// come from here; [`table_fault`](crate::plain::table_fault) decides 1 and 2.
 pub fn read(text: &[u8], tokens: &[u32]) -> Reading {
-    if token_count(tokens) > SHALLOW {
-        crate::on_large_stack(|| read_here(text, tokens))
-    } else {
-        read_here(text, tokens)
-    }
+    crate::on_large_stack_if(token_count(tokens) > SHALLOW, || read_here(text, tokens))
 }
 
 /// The same on the caller's own stack, for one that runs on a large stack
@@ -70,8 +64,8 @@ pub fn tokens_of(text: &[u8], tokens: &[u32]) -> Vec<Token> {
 
 /// The tree that the parser makes of tokens, if it accepts them. They are
 /// handed to it as copies.
-pub fn tree_of_lent(tokens: &[Token]) -> Option<Expression> {
-    read_whole(Lexer::lent(tokens)).ok()
+pub fn tree_of_copied(tokens: &[Token]) -> Option<Expression> {
+    read_whole(Lexer::copying(tokens)).ok()
 }
 
 /// The tree that the parser makes of tokens, if it accepts them. They are

@@ -145,10 +145,10 @@ fn compare_all(name: &str, trees: &[Tree]) {
 
 #[test]
 fn every_small_tree() {
-    compare_all("one atom", &shapes(0, 1, 9));
-    compare_all("two atoms", &shapes(0, 2, 4));
-    compare_all("three atoms", &shapes(0, 3, 2));
-    compare_all("four atoms", &shapes(0, 4, if cfg!(debug_assertions) { 1 } else { 2 }));
+    compare_all("one atom", &every_tree(0, 1, 9));
+    compare_all("two atoms", &every_tree(0, 2, 4));
+    compare_all("three atoms", &every_tree(0, 3, 2));
+    compare_all("four atoms", &every_tree(0, 4, if cfg!(debug_assertions) { 1 } else { 2 }));
 }
 
 #[test]
@@ -194,7 +194,7 @@ fn value(tree: &Tree, cells: &[Kleene]) -> Kleene {
         Tree::Unary(NOT, inner) => value(inner, cells).not(),
         Tree::Binary(AND, left, right) => value(left, cells).and(value(right, cells)),
         Tree::Binary(OR, left, right) => value(left, cells).or(value(right, cells)),
-        _ => unreachable!("shapes have no other nodes"),
+        _ => unreachable!("these trees have no other nodes"),
     }
 }
 
@@ -227,17 +227,13 @@ fn keeps_value(tree: &Tree, choices: &[Vec<Kleene>]) {
 fn lists_keep_the_kleene_value() {
     for (atoms, nots) in [(1, 9), (2, 4), (3, 2), (4, 1)] {
         let choices = choices(atoms);
-        shapes(0, u64::from(atoms), nots).iter().for_each(|tree| keeps_value(tree, &choices));
+        every_tree(0, u64::from(atoms), nots).iter().for_each(|tree| keeps_value(tree, &choices));
     }
 }
 
 #[test]
 fn long_chains_are_shared() {
     let column = Tree::Column;
-    let chain = |kind: u64, count: u64| {
-        let link = |t, c| binary(kind, t, column(c));
-        (1..count).fold(column(0), link)
-    };
     let trees = [
         chain(AND, 1_024),
         chain(OR, 1_024),
@@ -268,16 +264,19 @@ fn checks_of_rows() {
     assert_eq!(fault(b"", &[0, 0, 0, 1]), (BAD_TREE, 1));
     assert_eq!(fault(&[0; limit::TEXT + 1], &[]), (TOO_LONG, 0));
     assert_eq!(fault(b"", &[1, 0, 0].repeat(limit::ROWS + 1)), (TOO_LONG, 0));
-    assert_eq!(fault(b"", &[1, 0, 0].repeat(limit::ROWS)), (BAD_TREE, 2_047));
-    assert_eq!(fault(b"", &[[1, 0, 0].repeat(2_048), vec![1]].concat()), (BAD_TREE, 2_048));
+    assert_eq!(fault(b"", &[1, 0, 0].repeat(limit::ROWS)), (BAD_TREE, limit::ROWS as u64 - 1));
+    assert_eq!(
+        fault(b"", &[[1, 0, 0].repeat(limit::ROWS), vec![1]].concat()),
+        (BAD_TREE, limit::ROWS as u64)
+    );
     for bad in [0, 25, u64::MAX] {
         assert_eq!(fault(b"", &[bad, 0, 0]), (BAD_TREE, 0));
     }
     for bad in [[1, 1, 0], [1, 0, 1], [2, 2, 0], [2, 0, 1], [3, 0, 1], [4, 0, 1], [6, 0, 1]] {
         assert_eq!(fault(b"", &bad), (BAD_TREE, 0), "{bad:?}");
     }
-    assert_eq!(fault(b"", &[6, 65_536, 0]), (BAD_TREE, 0));
-    good(b"", &[6, 65_535, 0]);
+    assert_eq!(fault(b"", &[6, limit::COLUMN + 1, 0]), (BAD_TREE, 0));
+    good(b"", &[6, limit::COLUMN, 0]);
     good(b"", &[3, u64::MAX, 0]);
     good(b"", &[4, u64::MAX, 0]);
     good(b"ab", &[5, 1, 1]);

@@ -54,14 +54,6 @@ fn compare_some(made: &Tokens, firsts: &[usize], length: usize) -> u64 {
     compared
 }
 
-/// The kinds that expressions use, the number in three spellings, and one kind
-/// that they do not use.
-const EVERY: &str = "1 1.5 1x 'x a OR AND = != <> LIKE > >= < <= + - * / % ^ ! IS NOT NULL NAN \
-                     TRUE FALSE INFINITY ( ) , . ;";
-
-/// One kind for each part that a kind can play.
-const PARTS: &str = "1 a OR AND = < + - * ^ ! IS NOT NULL NAN ( ) , .";
-
 #[test]
 fn every_short_string_reads_alike() {
     let longest = if cfg!(debug_assertions) { 3 } else { 5 };

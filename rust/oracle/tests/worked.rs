@@ -2,6 +2,7 @@
 //! they have an answer of the same form, against the original's sources.
 
 use oracle::cases::*;
+use oracle::examples::{self, Split};
 use oracle::expression;
 use oracle::layout::{ROW_WIDTH, Row};
 use oracle::parser::{Reading, read};
@@ -32,26 +33,8 @@ fn refused(line: &str, number: u32, place: u64) {
 
 #[test]
 fn accepted_expressions() {
-    accepted(
-        "2 ^ 3 ^ 2 - 4 * 3",
-        &[
-            [2, 2, 0],
-            [2, 3, 0],
-            [2, 2, 0],
-            [31, 1, 2],
-            [31, 0, 3],
-            [2, 4, 0],
-            [2, 3, 0],
-            [28, 5, 6],
-            [27, 4, 7],
-        ],
-    );
-    accepted("- 1 !", &[[2, 1, 0], [13, 0, 0], [15, 1, 0]]);
-    accepted("1 + NULL IS NULL", &[[2, 1, 0], [8, 0, 0], [26, 0, 1], [16, 2, 0]]);
-    accepted("a = b < c", &[[9, 0, 0], [9, 2, 0], [9, 4, 0], [23, 1, 2], [19, 0, 3]]);
-    accepted("* * *", &[[1, 0, 0], [1, 0, 0], [28, 0, 1]]);
-    let parentheses = format!("{}1 {}", "( ".repeat(63), ") ".repeat(63));
-    accepted(&parentheses, &[[2, 1, 0]]);
+    examples::READ.iter().for_each(|(line, rows)| accepted(line, rows));
+    accepted(&examples::in_parentheses(63), &[[2, 1, 0]]);
 }
 
 #[test]
@@ -80,20 +63,8 @@ fn the_long_example() {
 
 #[test]
 fn refused_expressions() {
-    refused("1 + NOT 3", NO_ATOM, 2);
-    refused("1 + 2 IS NULL AND TRUE", LEFT_OVER, 5);
-    refused("f ( 1 , )", NO_ATOM, 4);
-    refused("", END, 0);
-    refused("a .", END, 2);
-    refused("a IS 3", WRONG_TOKEN, 2);
-    refused("9223372036854775808", BAD_NUMBER, 0);
-    let parentheses = format!("{}1 {}", "( ".repeat(64), ") ".repeat(64));
-    assert_eq!(plain_parse(&parentheses), Err((TOO_DEEP, 64)));
-}
-
-/// The four columns that the examples call a, b, c and d.
-fn columns() -> [Tree; 4] {
-    [0, 1, 2, 3].map(Tree::Column)
+    examples::REFUSED.iter().for_each(|(line, number, place)| refused(line, *number, *place));
+    assert_eq!(plain_parse(&examples::in_parentheses(64)), Err((TOO_DEEP, 64)));
 }
 
 /// The format's clauses of a tree.
@@ -110,37 +81,19 @@ fn original(tree: &Tree) -> Option<Vec<Vec<u64>>> {
 
 #[test]
 fn clause_lists() {
-    let [a, b, c, d] = columns();
-    // Rows: a 0, b 1, AND 2, c 3, d 4, AND 5, OR 6.
-    let tree = or(and(a.clone(), b.clone()), and(c.clone(), d.clone()));
-    let list = vec![vec![0, 6], vec![0, 8], vec![2, 6], vec![2, 8]];
-    assert_eq!(clauses(&tree), Ok(list.clone()));
-    assert_eq!(original(&tree), Some(list));
-    // Rows: column 4, 7, Equal 2, column 5, column 6, AND 5, NOT 6, OR 7.
-    let p = equal(Tree::Column(4), Tree::Integer(7));
-    let tree = or(p, not(and(Tree::Column(5), Tree::Column(6))));
-    assert_eq!(clauses(&tree), Ok(vec![vec![4, 7, 9]]));
-    assert_eq!(original(&tree), Some(vec![vec![4, 7, 9]]));
-    // The original leaves the next two unsplit: see differences.rs.
-    let tree = not(not(not(and(a.clone(), b.clone()))));
-    assert_eq!(clauses(&tree), Ok(vec![vec![1, 3]]));
-    // Rows: a 0, b 1, AND 2, c 3, OR 4, d 5, OR 6.
-    let tree = or(or(and(a, b), c), d);
-    assert_eq!(clauses(&tree), Ok(vec![vec![0, 6, 10], vec![2, 6, 10]]));
-}
-
-/// An OR of conjunctions, each given by how many atoms it has.
-fn or_of_ands(sizes: &[u64]) -> Tree {
-    let conjunction = |n: &u64| (1..*n).fold(Tree::Column(0), |t, c| and(t, Tree::Column(c)));
-    sizes.iter().map(conjunction).reduce(or).expect("there is one")
+    for Split { tree, clauses: list, shared } in examples::splits() {
+        assert_eq!(clauses(&tree), Ok(list.clone()), "{tree:?}");
+        // What the original leaves unsplit is in differences.rs.
+        assert_eq!(original(&tree), shared.then_some(list), "{tree:?}");
+    }
 }
 
 #[test]
 fn clause_limits() {
-    let list = clauses(&or_of_ands(&[2, 2, 2, 2, 2, 2, 4, 4])).unwrap();
-    assert_eq!(list.len(), 1_024);
-    assert_eq!(list.iter().map(Vec::len).sum::<usize>(), 8_192);
-    assert_eq!(clauses(&or_of_ands(&[2, 2, 2, 2, 2, 2, 2, 2, 4])), Err((TOO_MANY, 0)));
+    let list = clauses(&or_of_ands(&examples::MOST_LITERALS)).unwrap();
+    assert_eq!(list.len() as u64, limit::CLAUSES);
+    assert_eq!(list.concat().len() as u64, limit::LITERALS);
+    assert_eq!(clauses(&or_of_ands(&examples::TOO_MANY_LITERALS)), Err((TOO_MANY, 0)));
 }
 
 /// The format's lookup of the only clause, which the original shares.
@@ -155,11 +108,8 @@ fn lookup(tree: &Tree) -> Result<(u64, Vec<Value>), Refusal> {
 
 #[test]
 fn lookups() {
-    let c = || Tree::Column(7);
-    let one = || Tree::Integer(1);
-    let tree = or(or(equal(c(), one()), is(c(), 0)), equal(Tree::Integer(2), c()));
-    assert_eq!(lookup(&tree), Ok((7, vec![Value::Integer(1), Value::Null, Value::Integer(2)])));
-    assert_eq!(lookup(&equal(c(), Tree::Null)), Ok((7, vec![])));
-    let other = equal(Tree::Column(8), one());
-    assert_eq!(lookup(&or(equal(c(), one()), other)), Err((NOT_LOOKUP, 0)));
+    for (tree, values) in examples::lookups() {
+        let expected = values.map(|values| (examples::LOOKED_UP, values));
+        assert_eq!(lookup(&tree), expected.ok_or((NOT_LOOKUP, 0)), "{tree:?}");
+    }
 }

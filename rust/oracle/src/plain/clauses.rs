@@ -18,7 +18,7 @@ pub fn split(text: &[u8], rows: &[u64]) -> Result<Vec<Vec<u64>>, Refusal> {
         Some(_) => Ok(list(&rows, root, false)),
     };
     // A predicate may nest as deep as it has rows.
-    if rows.len() > 256 { crate::on_large_stack(work) } else { work() }
+    crate::on_large_stack_if(rows.len() > 256, work)
 }
 
 /// The literals and the ends that a split writes into lists of the given

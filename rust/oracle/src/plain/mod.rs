@@ -46,4 +46,5 @@ pub mod limit {
     pub const LEVELS: usize = 64;
     pub const CLAUSES: u64 = 1_024;
     pub const LITERALS: u64 = 8_192;
+    pub const COLUMN: u64 = 65_535;
 }

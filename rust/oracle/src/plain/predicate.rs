@@ -87,7 +87,7 @@ fn numbers_allowed(text: &[u8], &Row { kind, x, y, .. }: &Row) -> bool {
         kind::BOOLEAN => x <= 1 && y == 0,
         kind::INTEGER | kind::FLOAT => y == 0,
         kind::STRING => u128::from(x) + u128::from(y) <= text.len() as u128,
-        kind::COLUMN => x <= 65_535 && y == 0,
+        kind::COLUMN => x <= limit::COLUMN && y == 0,
         kind::IS => y <= 1,
         _ => match operand_count(kind) {
             Some(1) => y == 0,

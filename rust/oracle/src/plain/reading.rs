@@ -68,7 +68,7 @@ pub fn levels_needed(text: &[u8], tokens: &[u32]) -> usize {
         reader.deepest
     };
     // Without a limit the reading may nest as deep as there are tokens.
-    if token_count(tokens) > limit::LEVELS { crate::on_large_stack(work) } else { work() }
+    crate::on_large_stack_if(token_count(tokens) > limit::LEVELS, work)
 }
 
 /// The state of one reading.

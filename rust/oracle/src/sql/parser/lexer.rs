@@ -1,4 +1,4 @@
-//! Tokens, and a lexer that hands out a lent token table one token at a time.
+//! Tokens, and a lexer that hands out a token table one token at a time.
 //!
 //! Turning text into tokens is not part of the format, so this lexer reads no
 //! text of its own: it is given kinds and spans. A string or a name is handed
@@ -157,7 +157,7 @@ enum Made<'a> {
     /// None: the lexer has a table.
     No,
     /// Each is handed out as a copy, its string on the heap copied too.
-    Lent(std::slice::Iter<'a, Token>),
+    Copied(std::slice::Iter<'a, Token>),
     /// Each is handed out as it is.
     Given(std::vec::IntoIter<Token>),
 }
@@ -175,8 +175,8 @@ impl<'a> Lexer<'a> {
     }
 
     /// A lexer that hands out copies of tokens.
-    pub fn lent(tokens: &'a [Token]) -> Self {
-        Lexer { made: Made::Lent(tokens.iter()), ..Lexer::new("") }
+    pub fn copying(tokens: &'a [Token]) -> Self {
+        Lexer { made: Made::Copied(tokens.iter()), ..Lexer::new("") }
     }
 
     /// A lexer that hands out tokens as they are.
@@ -204,7 +204,7 @@ impl Iterator for Lexer<'_> {
 
     fn next(&mut self) -> Option<Self::Item> {
         match &mut self.made {
-            Made::Lent(tokens) => return tokens.next().cloned().map(Ok),
+            Made::Copied(tokens) => return tokens.next().cloned().map(Ok),
             Made::Given(tokens) => return tokens.next().map(Ok),
             Made::No => {}
         }

@@ -5,7 +5,7 @@ use std::fmt::{Display, Formatter, Write};
 
 /// The lookup that a clause is.
 #[derive(Clone, Copy, Debug, PartialEq, Eq, Hash)]
-pub struct Looked {
+pub struct LookedUp {
     /// The column that is looked up.
     pub column: u16,
     /// How many values it is looked up for.
@@ -92,16 +92,16 @@ fn write_quoted(f: &mut Formatter<'_>, bytes: &[u8]) -> std::fmt::Result {
 ///
 /// ```
 /// use fontrisc::predicate::{COLUMN, EQUAL, INTEGER, IS, OR};
-/// use fontrisc::{Looked, lookup};
+/// use fontrisc::{LookedUp, lookup};
 ///
 /// // column 4 = 7 OR column 4 IS NULL
 /// let equal = [COLUMN, 4, 0, INTEGER, 7, 0, EQUAL, 0, 1];
 /// let rows = [&equal[..], &[COLUMN, 4, 0, IS, 3, 0, OR, 2, 4]].concat();
-/// assert_eq!(lookup(b"", &rows, 0), Ok(Looked { column: 4, values: 2 }));
+/// assert_eq!(lookup(b"", &rows, 0), Ok(LookedUp { column: 4, values: 2 }));
 /// ```
-pub fn lookup(text: &[u8], rows: &[u64], clause: usize) -> Result<Looked, Refused> {
+pub fn lookup(text: &[u8], rows: &[u64], clause: usize) -> Result<LookedUp, Refused> {
     match ffi::lookup(text, rows, clause) {
-        (0, column, count) => Ok(Looked { column: column as u16, values: count as usize }),
+        (0, column, count) => Ok(LookedUp { column: column as u16, values: count as usize }),
         (number, place, _) => Err(refused(number, place)),
     }
 }

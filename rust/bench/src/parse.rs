@@ -1,10 +1,10 @@
 //! The times of `parse` beside those of the original's parser.
 
-use crate::clock::{best, head, nanoseconds, ratio, row, shown};
+use crate::clock::{best, nanoseconds, print_head, print_row, ratio, shown};
 use fontrisc::{ROW_WIDTH, limit};
 use oracle::cases::{Tokens, words};
 use oracle::layout::token_count;
-use oracle::parser::{tokens_of, tree_of_given, tree_of_lent};
+use oracle::parser::{tokens_of, tree_of_copied, tree_of_given};
 use std::hint::black_box;
 
 /// What was measured and how, before the table.
@@ -58,7 +58,7 @@ fn chain(part: &str, between: &str, count: usize) -> String {
 /// Prints the table.
 pub fn table() {
     println!("{NOTES}");
-    head(&[
+    print_head(&[
         "token list",
         "tokens",
         "library",
@@ -73,7 +73,7 @@ pub fn table() {
         measure(&name, &words(&line));
     }
     println!("\nA refusal clears the table that was lent, so its length counts:\n");
-    head(&["refused", "numbers in the table", "library"]);
+    print_head(&["refused", "numbers in the table", "library"]);
     for rows in [4, 32, limit::ROWS] {
         measure_refused("a = 1 AND", ROW_WIDTH * rows);
     }
@@ -88,7 +88,7 @@ fn measure_refused(line: &str, numbers: usize) {
         let parse = |()| fontrisc::parse(black_box(&made.text), &made.tokens, &mut rows);
         nanoseconds(numbers, || (), parse)
     }]);
-    row(&[format!("`{line}`"), numbers.to_string(), shown(time)]);
+    print_row(&[format!("`{line}`"), numbers.to_string(), shown(time)]);
 }
 
 /// Prints the row of one token list.
@@ -98,17 +98,17 @@ fn measure(name: &str, made: &Tokens) {
     let (text, tokens) = (&made.text[..], &made.tokens[..]);
     fontrisc::parse(text, tokens, &mut rows).expect("the list is a good one");
     let ready = tokens_of(text, tokens);
-    tree_of_lent(&ready).expect("the original takes it too");
+    tree_of_copied(&ready).expect("the original takes it too");
     let [ours, theirs, bare] = best([
         &mut || {
             let parse = |()| fontrisc::parse(black_box(text), black_box(tokens), &mut rows);
             nanoseconds(count, || (), parse)
         },
-        &mut || nanoseconds(count, || (), |()| tree_of_lent(black_box(&ready)).is_some()),
+        &mut || nanoseconds(count, || (), |()| tree_of_copied(black_box(&ready)).is_some()),
         &mut || nanoseconds(count, || ready.clone(), tree_of_given),
     ]);
     let each = |time: f64| format!("{:.1} ns", time / count as f64);
-    row(&[
+    print_row(&[
         name.to_string(),
         count.to_string(),
         shown(ours),

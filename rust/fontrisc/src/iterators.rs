@@ -3,7 +3,7 @@
 
 use crate::{ROW_WIDTH, Refused, Row, TOKEN_WIDTH, limit, parse, rows};
 
-/// Reads a token table as one expression, as [`parse`] does, into a table of
+/// Reads a token table as one expression, as [`parse()`] does, into a table of
 /// the size that is needed.
 ///
 /// Stack: [`stack::PARSE`](crate::stack::PARSE).
@@ -67,7 +67,7 @@ pub fn clauses<'l, 'e>(
     })
 }
 
-/// The clauses of a predicate, as [`split`](crate::split) lists them.
+/// The clauses of a predicate, as [`split`](crate::split()) lists them.
 ///
 /// Stack: [`stack::SPLIT`](crate::stack::SPLIT).
 ///

@@ -1,7 +1,7 @@
 //! The times of `lookup` and `value_at` beside those of the original's
 //! `is_column_lookup` and `into_column_values`.
 
-use crate::clock::{best, head, nanoseconds, ratio, row, shown};
+use crate::clock::{best, nanoseconds, print_head, print_row, ratio, shown};
 use crate::shapes::{AND, OR, Rows, rows};
 use oracle::expression::tree_of;
 use oracle::layout::row_count;
@@ -39,7 +39,7 @@ fn predicate(made: &mut Rows, clauses: usize, values: u64) {
 /// Prints the table.
 pub fn table() {
     println!("{NOTES}");
-    head(&[
+    print_head(&[
         "what",
         "clause",
         "values",
@@ -69,7 +69,7 @@ fn measure(rows: &[u64], clause: usize, clauses: usize) {
     let alone = tree.clone().into_cnf_vec().swap_remove(clause);
     let say = |what: &str, times: [f64; 3]| {
         let [ours, split, alone] = times;
-        row(&[
+        print_row(&[
             what.to_string(),
             format!("{clause} of {clauses}"),
             looked.values.to_string(),

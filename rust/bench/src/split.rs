@@ -1,6 +1,6 @@
 //! The times of `split` beside those of the original's `into_cnf_vec`.
 
-use crate::clock::{best, head, nanoseconds, ratio, row, shown};
+use crate::clock::{best, nanoseconds, print_head, print_row, ratio, shown};
 use crate::shapes::{AND, NOT, OR, Rows, rows};
 use fontrisc::limit;
 use oracle::expression::tree_of;
@@ -120,7 +120,7 @@ fn product(made: &mut Rows, sizes: &[u64]) {
 /// Prints the table.
 pub fn table() {
     println!("{NOTES}");
-    head(&[
+    print_head(&[
         "predicate",
         "rows",
         "clauses",
@@ -154,7 +154,7 @@ fn measure(name: &str, rows: &[u64]) {
         &mut || nanoseconds(things, || tree.clone(), |tree| tree.into_cnf_vec()),
     ]);
     let each = format!("{:.1} ns", ours / count as f64);
-    row(&[
+    print_row(&[
         name.to_string(),
         count.to_string(),
         listed.clauses.to_string(),
