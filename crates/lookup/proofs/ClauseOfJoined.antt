@@ -79,7 +79,7 @@ module _ {l tab : List ℕ} {r : ℕ} {g : Bool} {k : ℕ} {partial : PartialLoo
       only : clauses g (treeAt l r) ≡ (literal h (treeAt l q) ∷ []) ∷ []
       only = source-is g (can .sound) p e .1
 
-      pub atom-can-add : Sound l q × (valueCount partial < literalsMax)
+      pub atom-can-add : Sound l q × (valueCount partial ≤ literalsMax)
       atom-can-add = (
         sound-below q (can .sound) (source-is g (can .sound) p e .0),
         omega (arith, can .small, ap total only),

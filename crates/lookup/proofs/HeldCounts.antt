@@ -100,17 +100,10 @@ module _ {l : List ℕ} {r : ℕ} (h : Sound l r) {s : Shape} (e : s ≡ shapeAt
   unfolding heldCount
   count-node k f g n m = ap (λ (t : Tree). min (length (clauses g t)) clausesHeld) (node-at h e f) ∙ ap (λ (i : ℕ). min i clausesHeld) m
 
-  pub leaf-counts : s ≡ shape.Leaf → atomCounts ≡ clauseCounts l r
-  unfolding clauses nodeOf
-  leaf-counts f = counts-are l r (sym (count-node shape.Leaf f false 1 refl)) (sym (count-node shape.Leaf f true 1 refl))
-
-  pub one-counts : {x : ℕ} → s ≡ shape.One x → atomCounts ≡ clauseCounts l r
-  unfolding clauses nodeOf
-  one-counts {x} f = counts-are l r (sym (count-node (shape.One x) f false 1 refl)) (sym (count-node (shape.One x) f true 1 refl))
-
-  pub two-counts : {x y : ℕ} → s ≡ shape.Two x y → atomCounts ≡ clauseCounts l r
-  unfolding clauses nodeOf
-  two-counts {x} {y} f = counts-are l r (sym (count-node (shape.Two x y) f false 1 refl)) (sym (count-node (shape.Two x y) f true 1 refl))
+  -- a row whose node has one clause in each reading has an atom's counts
+  pub counts-of-atom : {k : Shape} → s ≡ k → ((g : Bool) → length (clauses g (nodeOf k r (rowAt l r) (map (treeAt l) (operandsOf (arityOf k))))) ≡ 1)
+      → atomCounts ≡ clauseCounts l r
+  counts-of-atom {k} f one = counts-are l r (sym (count-node k f false 1 (one false))) (sym (count-node k f true 1 (one true)))
 
   count-not : {x : ℕ} → s ≡ shape.Not x → (g : Bool) → heldCount l x (not g) ≡ heldCount l r g
   unfolding clauses nodeOf arityOf operandsOf heldCount

@@ -1,10 +1,12 @@
 -- `counts::clause_counts_of` meets its contract: the counts of a row come from those of its operands, by its shape.
 -- Assumes nothing.
-use mathlib.Core.Path.{ap, ap₂, _∙_}
+use mathlib.Core.Path.{refl, ap, ap₂, _∙_}
 use native.Mathlib.Omega.{arith}
+use Rattle.predicate.specs.Tree.{nodeOf}
 use Rattle.predicate.proofs.Shapes.{falls-both, falls-either, falls-not}
+use Rattle.cnf.specs.Clause.{clauses}
 use Rattle.lookup.specs.ByNumber.{bothCounts, eitherCounts, notCounts}
-use Rattle.lookup.proofs.HeldCounts.{read-counts, read-small, leaf-counts, one-counts, two-counts, negated-counts, conjoined-counts, disjoined-counts}
+use Rattle.lookup.proofs.HeldCounts.{read-counts, read-small, counts-of-atom, negated-counts, conjoined-counts, disjoined-counts}
 use borrow.Author.Needs.{needs}
 use Rattle.lookup.proofs.counts.clause_counts_of.Statement.{statement}
 use Rattle.lookup.proofs.counts.clause_counts_of.Tie as tie
@@ -93,22 +95,25 @@ not-counts-requires : tie.Need-not-counts-requires
 not-counts-requires c κs = search needs
 
 returns : tie.Need-returns
+unfolding clauses nodeOf
 returns c =
     let pre = c .before .before .before .before .before .before .pre in
     let shape-at = c .before .before .before .shape-at in
-    c .atom-counts .ensures ∙ leaf-counts (pre .0) (shape-at .ensures) (c .before .enum-told .given .1)
+    c .atom-counts .ensures ∙ counts-of-atom (pre .0) (shape-at .ensures) (c .before .enum-told .given .1) (λ g. refl)
 
 returns-2 : tie.Need-returns-2
+unfolding clauses nodeOf
 returns-2 c =
     let pre = c .before .before .before .before .before .before .pre in
     let shape-at = c .before .before .before .shape-at in
-    c .atom-counts2 .ensures ∙ one-counts (pre .0) (shape-at .ensures) (c .before .enum-told2 .given .1)
+    c .atom-counts2 .ensures ∙ counts-of-atom (pre .0) (shape-at .ensures) (c .before .enum-told2 .given .1) (λ g. refl)
 
 returns-3 : tie.Need-returns-3
+unfolding clauses nodeOf
 returns-3 c =
     let pre = c .before .before .before .before .before .before .pre in
     let shape-at = c .before .before .before .shape-at in
-    c .atom-counts3 .ensures ∙ two-counts (pre .0) (shape-at .ensures) (c .before .enum-told3 .given .1)
+    c .atom-counts3 .ensures ∙ counts-of-atom (pre .0) (shape-at .ensures) (c .before .enum-told3 .given .1) (λ g. refl)
 
 returns-4 : tie.Need-returns-4
 returns-4 c =
