@@ -15,6 +15,7 @@ use values::constant_of_row;
 use values::pattern_of;
 use values::value_of;
 
+// Prints a truth value.
 fn print_truth(yes: bool) {
     if yes {
         print(b"TRUE");
@@ -42,6 +43,7 @@ fn print_float(pattern: u64) {
     }
 }
 
+// Prints a value. A String is a part of the text.
 pub fn print_value(text: &[u8], v: Value) {
     match v {
         Value::Null => print(b"NULL"),

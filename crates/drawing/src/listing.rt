@@ -11,7 +11,7 @@ use lookup::LookedUp;
 use splitter::Listed;
 use widths::u32_to_usize;
 
-// Number i of a list, and 0 where there is none.
+// Answers number i of a list, and 0 where there is none.
 fn number_at(list: &[u32], i: usize) -> usize {
     if i < list.len() {
         u32_to_usize(list[i])
@@ -20,7 +20,7 @@ fn number_at(list: &[u32], i: usize) -> usize {
     }
 }
 
-// A literal: an atom's row, plain or negated, and before it an OR if it is not the first.
+// Prints a literal: an atom's row, plain or negated, and before it an OR if it is not the first.
 fn print_literal(literal: usize, first: bool) {
     if !first {
         print(b" OR ");
@@ -32,7 +32,7 @@ fn print_literal(literal: usize, first: bool) {
     print_decimal((literal / 2) as u64);
 }
 
-// The literals from one place up to another.
+// Prints the literals from one place up to another.
 fn print_clause(literals: &[u32], from: usize, end: usize) {
     let mut i = from;
     while i < end {
@@ -41,7 +41,7 @@ fn print_clause(literals: &[u32], from: usize, end: usize) {
     }
 }
 
-// Value i of a lookup.
+// Prints value i of a lookup.
 fn print_value_at(text: &[u8], rows: &[u64], clause: usize, i: usize) {
     if 0 < i {
         print(b", ");
@@ -79,7 +79,7 @@ fn print_counts(count: usize, total: usize) {
     print_count(total, b"literal");
 }
 
-// What a clause looks for.
+// Prints what a clause looks for.
 fn print_lookup(text: &[u8], rows: &[u64], clause: usize) {
     match lookup::lookup(text, rows, clause) {
         LookedUp::OnColumn(column, count) => {
@@ -92,7 +92,7 @@ fn print_lookup(text: &[u8], rows: &[u64], clause: usize) {
     }
 }
 
-// Clause k on its line.
+// Prints clause k on its line.
 fn print_numbered_clause(literals: &[u32], from: usize, end: usize, k: usize) {
     print(b"  clause ");
     print_decimal(k as u64);
@@ -101,7 +101,7 @@ fn print_numbered_clause(literals: &[u32], from: usize, end: usize, k: usize) {
     print(b"\n");
 }
 
-// Each clause, and below it what it looks for.
+// Prints each clause, and below it what it looks for.
 fn print_clauses(text: &[u8], rows: &[u64], literals: &[u32], ends: &[u32], count: usize) {
     let mut from = 0;
     let mut k = 0;
@@ -114,6 +114,7 @@ fn print_clauses(text: &[u8], rows: &[u64], literals: &[u32], ends: &[u32], coun
     }
 }
 
+// Splits a predicate, with two lists to write to, and prints its clauses or the refusal.
 fn print_split(text: &[u8], rows: &[u64], line: u64, literals: &mut [u32], ends: &mut [u32]) {
     match splitter::split(text, rows, literals, ends) {
         Listed::Clauses(count, total) => {
@@ -125,7 +126,7 @@ fn print_split(text: &[u8], rows: &[u64], line: u64, literals: &mut [u32], ends:
     }
 }
 
-// The clauses of these rows, which stand in this line.
+// Prints the clauses of these rows, which stand in this line.
 pub fn print_predicate(text: &[u8], rows: &[u64], line: u64) {
     let mut literals = [0u32; LITERALS_MAX as usize];
     let mut ends = [0u32; CLAUSES_MAX as usize];

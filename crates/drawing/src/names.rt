@@ -3,12 +3,13 @@ use crate::out::print;
 use crate::out::print_decimal;
 use crate::out::print_line_number;
 use crate::out::print_part;
-use lines::scan::byte;
-use lines::scan::until;
+use lines::scan::byte_or_zero;
+use lines::scan::find_byte;
 use lines::scan::word_end;
 use lines::scan::word_start;
 use refusals::Refusal;
 
+// Prints the name of a syntax row's kind.
 pub fn print_syntax_kind(kind: u64) {
     print_part(
         b"? All Integer Float Infinity NaN String Boolean Null Column Column Function Identity Negate Not Factorial Is \
@@ -19,6 +20,7 @@ pub fn print_syntax_kind(kind: u64) {
     );
 }
 
+// Prints the name of a predicate row's kind.
 pub fn print_predicate_kind(kind: u64) {
     print_part(
         b"? Null Boolean Integer Float String Column And Or Not Equal GreaterThan LessThan Is Add Divide Exponentiate \
@@ -37,7 +39,7 @@ fn print_entry(entry: &[u8], n: u32, place: usize) {
     print(b" (");
     print_decimal(n as u64);
     print(b")");
-    if byte(entry, counts) != b'-' {
+    if byte_or_zero(entry, counts) != b'-' {
         print(b" at ");
         print(&entry[counts..counted]);
         print(b" ");
@@ -48,23 +50,23 @@ fn print_entry(entry: &[u8], n: u32, place: usize) {
     print(b"\n");
 }
 
-// Does an entry of the table begin with this number, in two digits?
+// Tells if the table's entry at `at` begins with this number, in two digits.
 fn has_number(table: &[u8], at: usize, n: u32) -> bool {
     let digits = n % 100;
-    if byte(table, at) != b'0' + (digits / 10) as u8 {
+    if byte_or_zero(table, at) != b'0' + (digits / 10) as u8 {
         return false;
     }
     if table.len() <= at {
         return false;
     }
-    byte(table, at + 1) == b'0' + (digits % 10) as u8
+    byte_or_zero(table, at + 1) == b'0' + (digits % 10) as u8
 }
 
 // Prints the entry of refusal n from a table with `|` between its entries.
 fn print_entry_of(table: &[u8], n: u32, place: usize) {
     let mut at = 0;
     while at < table.len() {
-        let end = until(table, at, b'|');
+        let end = find_byte(table, at, b'|');
         let name = word_start(table, word_end(table, at));
         if has_number(table, at, n) {
             if name <= end {

@@ -1,8 +1,8 @@
-// Writing to standard output.
+// Printing: writing to standard output.
 use libc::STDOUT_FILENO;
-use lines::scan::until;
+use lines::scan::find_byte;
 
-// Writes s; answers whether all of it could be written.
+// Prints bytes; tells if all of them could be written.
 pub fn try_print(s: &[u8]) -> bool {
     io::write_all(STDOUT_FILENO, s)
 }
@@ -15,20 +15,20 @@ pub fn print_decimal(n: u64) {
     io::print_decimal(STDOUT_FILENO, n);
 }
 
-// Which line a message is of.
+// Prints which line a message is of.
 pub fn print_line_number(number: u64) {
     print(b"  line ");
     print_decimal(number);
     print(b": ");
 }
 
-// A float by its bits.
+// Prints a float by its bits.
 pub fn print_bits(n: u64) {
     print(b"0x");
     io::print_hex(STDOUT_FILENO, n, 16);
 }
 
-// A row number, in four places.
+// Prints a row number, in four places.
 pub fn print_row_number(n: usize) {
     if n < 10 {
         print(b"   ");
@@ -44,7 +44,7 @@ fn print_step() {
     print(b"  ");
 }
 
-// Two spaces for each step down a tree.
+// Prints two spaces for each step down a tree.
 pub fn print_indent(depth: usize) {
     let mut i = 0;
     while i < depth {
@@ -53,7 +53,7 @@ pub fn print_indent(depth: usize) {
     }
 }
 
-// As wide as a byte is on the screen: a tab as it is, nothing for a byte that goes on with a character, and else a space.
+// Prints a blank as wide as a byte is on the screen: a tab as it is, nothing for a byte that goes on with a character, and else a space.
 fn print_blank_for(b: u8) {
     if b == 9 {
         print(b"\t");
@@ -64,7 +64,7 @@ fn print_blank_for(b: u8) {
     }
 }
 
-// As wide as these bytes are on the screen.
+// Prints blanks as wide as these bytes are on the screen.
 pub fn print_blanks_for(s: &[u8]) {
     let mut i = 0;
     while i < s.len() {
@@ -73,7 +73,7 @@ pub fn print_blanks_for(s: &[u8]) {
     }
 }
 
-// How many of something.
+// Prints how many there are of something.
 pub fn print_count(n: usize, what: &[u8]) {
     print_decimal(n as u64);
     print(b" ");
@@ -83,7 +83,7 @@ pub fn print_count(n: usize, what: &[u8]) {
     }
 }
 
-// A part of a text between quotes.
+// Prints a part of a text between quotes.
 pub fn print_quoted(text: &[u8], start: usize, length: usize) {
     print(b"'");
     if start <= text.len() {
@@ -95,12 +95,12 @@ pub fn print_quoted(text: &[u8], start: usize, length: usize) {
     print(b"'");
 }
 
-// Writes part n, counted from 0, of a list with one byte `between` its parts.
+// Prints part n, counted from 0, of a list with one byte `between` its parts.
 pub fn print_part(list: &[u8], between: u8, n: usize) {
     let mut at = 0;
     let mut i = 0;
     while at < list.len() {
-        let end = until(list, at, between);
+        let end = find_byte(list, at, between);
         if i == n {
             print(&list[at..end]);
             return;

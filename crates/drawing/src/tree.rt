@@ -11,16 +11,17 @@ use limits::ROWS_MAX;
 use lines::scan::one_more;
 use predicate::kind as predicate_kind;
 use rows::Row;
-use syntax::kind;
+use syntax::kind as syntax_kind;
 ghost use mathlib.Core.Path.{_≡_};
 ghost use lib.ListN.{length};
 
+// What the rows are of.
 pub enum Family {
     Syntax,
     Predicate,
 }
 
-// Row n, and one of no kind where there is none.
+// Answers row n, and one of no kind where there is none.
 fn row_or_none(rows: &[u64], n: usize) -> Row {
     if n < rows::count(rows) {
         rows::row_at(rows, n)
@@ -33,29 +34,35 @@ fn row_or_none(rows: &[u64], n: usize) -> Row {
     }
 }
 
-// How many operands a row has.
+// Answers how many operands a syntax row has; none where its kind is unknown.
 fn syntax_operands(k: u64, y: u64) -> usize {
-    if k < kind::FUNCTION {
-        0
-    } else if k == kind::FUNCTION {
-        y as usize
-    } else if k < kind::AND {
-        1
-    } else {
-        2
+    match k {
+        syntax_kind::FUNCTION => y as usize,
+        syntax_kind::IDENTITY | syntax_kind::NEGATE | syntax_kind::NOT => 1,
+        syntax_kind::FACTORIAL | syntax_kind::IS => 1,
+        syntax_kind::AND | syntax_kind::OR | syntax_kind::EQUAL | syntax_kind::NOT_EQUAL => 2,
+        syntax_kind::GREATER_THAN | syntax_kind::GREATER_THAN_OR_EQUAL => 2,
+        syntax_kind::LESS_THAN | syntax_kind::LESS_THAN_OR_EQUAL | syntax_kind::LIKE => 2,
+        syntax_kind::ADD | syntax_kind::SUBTRACT | syntax_kind::MULTIPLY => 2,
+        syntax_kind::DIVIDE | syntax_kind::REMAINDER | syntax_kind::EXPONENTIATE => 2,
+        _ => 0,
     }
 }
 
+// Answers how many operands a predicate row has; none where its kind is unknown.
 fn predicate_operands(k: u64) -> usize {
     match k {
-        predicate_kind::NULL | predicate_kind::BOOLEAN | predicate_kind::INTEGER => 0,
-        predicate_kind::FLOAT | predicate_kind::STRING | predicate_kind::COLUMN => 0,
         predicate_kind::NOT | predicate_kind::IS | predicate_kind::FACTORIAL => 1,
         predicate_kind::IDENTITY | predicate_kind::NEGATE | predicate_kind::SQUARE_ROOT => 1,
-        _ => 2,
+        predicate_kind::AND | predicate_kind::OR | predicate_kind::EQUAL => 2,
+        predicate_kind::GREATER_THAN | predicate_kind::LESS_THAN | predicate_kind::LIKE => 2,
+        predicate_kind::ADD | predicate_kind::SUBTRACT | predicate_kind::MULTIPLY => 2,
+        predicate_kind::DIVIDE | predicate_kind::REMAINDER | predicate_kind::EXPONENTIATE => 2,
+        _ => 0,
     }
 }
 
+// Answers how many operands a row has.
 fn operands(family: Family, row: Row) -> usize {
     match family {
         Family::Syntax => syntax_operands(row.kind, row.y),
@@ -63,11 +70,12 @@ fn operands(family: Family, row: Row) -> usize {
     }
 }
 
-// Number i of a list, and 0 where there is none.
+// Answers number i of a list, and 0 where there is none.
 fn number_at(a: &[usize], i: usize) -> usize {
     if i < a.len() { a[i] } else { 0 }
 }
 
+// Writes a number where there is a place for it.
 fn store(a: &mut [usize], i: usize, x: usize)
     ensures { λ _. ⌜ length (now (a .exit)) ≡ length (now (a .entry)) ⌝ }
 {
@@ -76,7 +84,7 @@ fn store(a: &mut [usize], i: usize, x: usize)
     }
 }
 
-// The first row of the subtree of row n, which has so many operands.
+// Finds the first row of the subtree of row n, which has so many operands.
 fn first_row(starts: &[usize], n: usize, operands: usize) -> usize {
     let mut at = n;
     let mut i = 0;
@@ -90,7 +98,7 @@ fn first_row(starts: &[usize], n: usize, operands: usize) -> usize {
     at
 }
 
-// The first row of each subtree.
+// Writes the first row of each subtree.
 fn find_starts(family: Family, rows: &[u64], starts: &mut [usize]) {
     let count = rows::count(rows);
     let mut n = 0;
@@ -102,7 +110,7 @@ fn find_starts(family: Family, rows: &[u64], starts: &mut [usize]) {
     }
 }
 
-// Puts a row on the stack, with its depth.
+// Puts a row on the stack, with its depth; answers the stack's new height.
 fn push(depths: &mut [usize], stack: &mut [usize], top: usize, row: usize, depth: usize) -> usize {
     store(depths, row, depth);
     store(stack, top, row);
@@ -134,7 +142,7 @@ fn push_operands(
     top
 }
 
-// What stands before a row's name.
+// Prints what stands before a row's name.
 fn print_margin(n: usize, depth: usize) {
     print(b"  ");
     print_row_number(n);
@@ -142,6 +150,7 @@ fn print_margin(n: usize, depth: usize) {
     print_indent(depth);
 }
 
+// Prints a row's name and what it holds.
 fn print_row(family: Family, text: &[u8], tokens: &[u32], row: Row) {
     match family {
         Family::Syntax => print_syntax_row(text, tokens, row),
@@ -149,7 +158,7 @@ fn print_row(family: Family, text: &[u8], tokens: &[u32], row: Row) {
     }
 }
 
-// A row on its line.
+// Draws a row on its line.
 fn draw_row(family: Family, text: &[u8], tokens: &[u32], row: Row, n: usize, depth: usize) {
     print_margin(n, depth);
     print_row(family, text, tokens, row);
@@ -174,7 +183,7 @@ fn draw_top(
     push_operands(starts, depths, stack, top, n, operands(family, row))
 }
 
-// The row on the stack and all below it, each once.
+// Draws the row on the stack and all below it, each once.
 fn draw_rows(
     family: Family,
     text: &[u8],
@@ -205,6 +214,7 @@ fn draw_rows(
     }
 }
 
+// Draws the tree of these rows, with three tables to work in.
 fn draw_with(
     family: Family,
     text: &[u8],
@@ -223,7 +233,7 @@ fn draw_with(
     draw_rows(family, text, tokens, rows, starts, depths, stack);
 }
 
-// The tree of these rows, which are good ones.
+// Draws the tree of these rows, which are good ones.
 pub fn draw(family: Family, text: &[u8], tokens: &[u32], rows: &[u64]) {
     let mut starts = [0usize; ROWS_MAX];
     let mut depths = [0usize; ROWS_MAX];

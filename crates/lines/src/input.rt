@@ -1,5 +1,5 @@
 // Reading lines from a file or from a terminal, however many there are.
-use crate::scan::byte;
+use crate::scan::byte_or_zero;
 use crate::scan::one_more;
 ghost use mathlib.Core.Path.{_≡_};
 ghost use lib.ListN.{length};
@@ -10,7 +10,8 @@ pub struct Unread {
     pub end: usize,
 }
 
-pub enum Next {
+// What reading a byte comes to: the byte and what is unread after it, the end of the input, or a read that failed.
+pub enum NextByte {
     Byte(u8, Unread),
     End,
     Failed,
@@ -24,27 +25,28 @@ pub struct Line {
     pub failed: bool,
 }
 
-// The next byte, from the chunk or from what is read into it next.
-fn next_byte(fd: i32, chunk: &mut [u8], unread: Unread) -> Next {
+// Reads the next byte, from the chunk or from what is read into it next.
+fn next_byte(fd: i32, chunk: &mut [u8], unread: Unread) -> NextByte {
     let at = unread.at;
     let end = unread.end;
     if at < end {
-        return Next::Byte(byte(chunk, at), Unread { at: at + 1, end });
+        return NextByte::Byte(byte_or_zero(chunk, at), Unread { at: at + 1, end });
     }
     let got = libc::read(fd, chunk);
     if got < 0 {
-        return Next::Failed;
+        return NextByte::Failed;
     }
     let n = io::count(got, chunk);
     if n == 0 {
-        return Next::End;
+        return NextByte::End;
     }
-    Next::Byte(byte(chunk, 0), Unread { at: 1, end: n })
+    NextByte::Byte(byte_or_zero(chunk, 0), Unread { at: 1, end: n })
 }
 
-fn has_failed(next: Next) -> bool {
+// Tells if a read failed.
+fn has_failed(next: NextByte) -> bool {
     match next {
-        Next::Failed => true,
+        NextByte::Failed => true,
         _ => false,
     }
 }
@@ -58,14 +60,14 @@ fn store(line: &mut [u8], i: usize, b: u8)
     }
 }
 
-// The next line, as much of it as there are places for.
+// Reads the next line, as much of it as there are places for.
 pub fn read_line(fd: i32, chunk: &mut [u8], line: &mut [u8], unread: Unread) -> Line {
     let mut rest = unread;
     let mut n = 0;
     let mut left: u64 = 18446744073709551615;
     while 0 < left {
         let next = next_byte(fd, chunk, rest);
-        let Next::Byte(b, after) = next else {
+        let NextByte::Byte(b, after) = next else {
             return Line {
                 length: n,
                 unread: rest,

@@ -1,11 +1,14 @@
-// Which token a word is.
-use crate::scan::byte;
-use crate::scan::find;
+// The kind of token that a word is.
+use crate::scan::byte_or_zero;
+use crate::scan::place_in_list;
 use tokens::kind;
 
-// The kind of a keyword or sign, and 0 for any other word: the list has the spellings of kinds 4 to 88, in order.
+// How many keywords and signs there are. Their kinds follow those that carry a spelling, of which `IDENT` is the last.
+const SPELLINGS: usize = (kind::LAST - kind::IDENT) as usize;
+
+// Answers the kind of a keyword or sign, and 0 for any other word. The list has the spellings by rising kind.
 fn reserved(word: &[u8]) -> u32 {
-    let n = find(
+    let n = place_in_list(
         b"OR AND = != <> LIKE > >= < <= + - * / % ^ ! IS NOT NULL NAN TRUE FALSE INFINITY ( ) , . ; AS ASC BEGIN BOOL \
           BOOLEAN BY COMMIT CREATE CROSS DEFAULT DELETE DESC DOUBLE DROP EXISTS EXPLAIN FLOAT FROM GROUP HAVING IF \
           INDEX INNER INSERT INT INTEGER INTO JOIN KEY LEFT LIMIT OF OFFSET ON ONLY ORDER OUTER PRIMARY READ REFERENCES \
@@ -14,28 +17,28 @@ fn reserved(word: &[u8]) -> u32 {
     );
     if n == 0 {
         0
-    } else if n < 86 {
-        (n + 3) as u32
+    } else if n <= SPELLINGS {
+        n as u32 + kind::IDENT
     } else {
         0
     }
 }
 
-// Is it in quotes?
+// Tells if a word is in quotes.
 fn in_quotes(word: &[u8]) -> bool {
     if word.len() < 2 {
         return false;
     }
-    if byte(word, 0) == b'\'' {
-        byte(word, word.len() - 1) == b'\''
+    if byte_or_zero(word, 0) == b'\'' {
+        byte_or_zero(word, word.len() - 1) == b'\''
     } else {
         false
     }
 }
 
-// Does it begin as a number does, with a digit or a `.`?
+// Tells if a word begins as a number does, with a digit or a `.`.
 fn numeric(word: &[u8]) -> bool {
-    let b = byte(word, 0);
+    let b = byte_or_zero(word, 0);
     if b == b'.' {
         true
     } else if b < b'0' {
@@ -45,7 +48,7 @@ fn numeric(word: &[u8]) -> bool {
     }
 }
 
-// The kind of token that a word is.
+// Answers the kind of token that a word is.
 pub fn kind_of(word: &[u8]) -> u32 {
     let known = reserved(word);
     if known != 0 {

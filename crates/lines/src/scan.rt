@@ -2,7 +2,7 @@
 ghost use Prim.Native.Nat.{_≤_};
 ghost use lib.ListN.{length};
 
-// What separates words.
+// Tells if a byte separates words.
 fn blank(b: u8) -> bool {
     if b == b' ' {
         true
@@ -13,13 +13,13 @@ fn blank(b: u8) -> bool {
     }
 }
 
-// Byte i, and 0 where there is none.
-pub fn byte(s: &[u8], i: usize) -> u8 {
+// Answers byte i, and 0 where there is none.
+pub fn byte_or_zero(s: &[u8], i: usize) -> u8 {
     if i < s.len() { s[i] } else { 0 }
 }
 
-// Where the next byte `b` from `at` on is, or the end.
-pub fn until(s: &[u8], at: usize, b: u8) -> usize
+// Finds the next byte `b` from `at` on; answers the end where there is none.
+pub fn find_byte(s: &[u8], at: usize, b: u8) -> usize
     requires { ⌜ at ≤ length (now s) ⌝ }
     ensures { λ r. ⌜ (at ≤ r) × (r ≤ length (now (s .entry))) ⌝ }
 {
@@ -33,19 +33,19 @@ pub fn until(s: &[u8], at: usize, b: u8) -> usize
     end
 }
 
-// Where the last byte `b` is, or the end.
-pub fn last(s: &[u8], b: u8) -> usize {
+// Finds the last byte `b`; answers the end where there is none.
+pub fn find_last_byte(s: &[u8], b: u8) -> usize {
     let mut i = s.len();
     while 0 < i {
         i -= 1;
-        if byte(s, i) == b {
+        if byte_or_zero(s, i) == b {
             return i;
         }
     }
     s.len()
 }
 
-// Where a run of blanks, or of bytes that are none, from `at` on ends.
+// Finds the end of a run of blanks, or of bytes that are none, from `at` on.
 fn run_end(s: &[u8], at: usize, blanks: bool) -> usize
     requires { ⌜ at ≤ length (now s) ⌝ }
     ensures { λ r. ⌜ (at ≤ r) × (r ≤ length (now (s .entry))) ⌝ }
@@ -60,7 +60,7 @@ fn run_end(s: &[u8], at: usize, blanks: bool) -> usize
     end
 }
 
-// Past the blanks from `at` on.
+// Passes over the blanks from `at` on.
 pub fn word_start(s: &[u8], at: usize) -> usize
     requires { ⌜ at ≤ length (now s) ⌝ }
     ensures { λ r. ⌜ (at ≤ r) × (r ≤ length (now (s .entry))) ⌝ }
@@ -68,7 +68,7 @@ pub fn word_start(s: &[u8], at: usize) -> usize
     run_end(s, at, true)
 }
 
-// Where the word at `at` ends.
+// Finds the end of the word at `at`.
 pub fn word_end(s: &[u8], at: usize) -> usize
     requires { ⌜ at ≤ length (now s) ⌝ }
     ensures { λ r. ⌜ (at ≤ r) × (r ≤ length (now (s .entry))) ⌝ }
@@ -76,7 +76,7 @@ pub fn word_end(s: &[u8], at: usize) -> usize
     run_end(s, at, false)
 }
 
-// Where the next word from `at` on starts, and `at` where there is none.
+// Finds the start of the next word from `at` on; answers `at` where there is none.
 fn next_word(s: &[u8], at: usize) -> usize
     requires { ⌜ at ≤ length (now s) ⌝ }
     ensures { λ r. ⌜ r ≤ length (now (s .entry)) ⌝ }
@@ -85,7 +85,7 @@ fn next_word(s: &[u8], at: usize) -> usize
     if start == s.len() { at } else { start }
 }
 
-// Where word n from `from` on starts, counted from 0 and from the end of a word; where there are fewer, where the last one ends.
+// Finds the start of word n from `from` on, which is the end of a word; n counts from 0. Where there are fewer words it answers the end of the last one.
 pub fn word_at(s: &[u8], from: usize, n: usize) -> usize
     requires { ⌜ from ≤ length (now s) ⌝ }
     ensures { λ r. ⌜ r ≤ length (now (s .entry)) ⌝ }
@@ -100,19 +100,19 @@ pub fn word_at(s: &[u8], from: usize, n: usize) -> usize
     at
 }
 
-// One more, as far as numbers go.
+// Adds one, as far as numbers go.
 pub fn one_more(n: usize) -> usize {
     if n < 18446744073709551615 { n + 1 } else { n }
 }
 
-// Are these the same bytes?
-fn same(a: &[u8], b: &[u8]) -> bool {
+// Tells if these are the same bytes.
+fn equal_bytes(a: &[u8], b: &[u8]) -> bool {
     if a.len() != b.len() {
         return false;
     }
     let mut i = 0;
     while i < a.len() {
-        if byte(a, i) != byte(b, i) {
+        if byte_or_zero(a, i) != byte_or_zero(b, i) {
             return false;
         }
         i += 1;
@@ -120,14 +120,14 @@ fn same(a: &[u8], b: &[u8]) -> bool {
     true
 }
 
-// The number of a word in a list of words with one space between them, counted from 1; 0 where it is none of them.
-pub fn find(list: &[u8], word: &[u8]) -> usize {
+// Answers the place of a word in a list of words with one space between them, counted from 1; 0 where it is none of them.
+pub fn place_in_list(list: &[u8], word: &[u8]) -> usize {
     let mut at = 0;
     let mut n = 0;
     while at < list.len() {
-        let end = until(list, at, b' ');
+        let end = find_byte(list, at, b' ');
         n += 1;
-        if same(&list[at..end], word) {
+        if equal_bytes(&list[at..end], word) {
             return n;
         }
         at = end + 1;

@@ -1,6 +1,6 @@
 // A line's words as tokens. This is no lexer: a word is one token, and what separates words is a blank.
 use crate::kinds::kind_of;
-use crate::scan::byte;
+use crate::scan::byte_or_zero;
 use crate::scan::word_end;
 use crate::scan::word_start;
 use tokens::kind;
@@ -16,7 +16,8 @@ pub enum Doubt {
     Nothing,
 }
 
-fn narrow(x: usize) -> u32 {
+// Answers the lowest 32 bits of a number.
+fn low_32_bits(x: usize) -> u32 {
     (x % 4294967296) as u32
 }
 
@@ -36,7 +37,7 @@ fn push_token(table: &mut [u32], n: usize, t: Token) -> usize
     n + WIDTH
 }
 
-// The token of a word. The quotes of a String stand outside its span.
+// Answers the token of a word. The quotes of a String stand outside its span.
 fn token_of(line: &[u8], start: usize, end: usize) -> Token
     requires { ⌜ (start ≤ end) × (end ≤ length (now line)) ⌝ }
 {
@@ -48,20 +49,20 @@ fn token_of(line: &[u8], start: usize, end: usize) -> Token
             let from = start + 1;
             return Token {
                 kind,
-                start: narrow(from),
-                length: narrow(length - 2),
+                start: low_32_bits(from),
+                length: low_32_bits(length - 2),
             };
         }
     }
     Token {
         kind,
-        start: narrow(start),
-        length: narrow(length),
+        start: low_32_bits(start),
+        length: low_32_bits(length),
     }
 }
 
-// The table after one more word.
-fn take_word(line: &[u8], start: usize, end: usize, table: &mut [u32], n: usize) -> usize
+// Writes the token of a word, unless the word is empty; answers how many numbers the table then has.
+fn push_word_token(line: &[u8], start: usize, end: usize, table: &mut [u32], n: usize) -> usize
     requires { ⌜ (start ≤ end) × (end ≤ length (now line)) ⌝ }
     ensures { λ _. ⌜ length (now (table .exit)) ≡ length (now (table .entry)) ⌝ }
 {
@@ -72,20 +73,20 @@ fn take_word(line: &[u8], start: usize, end: usize, table: &mut [u32], n: usize)
     push_token(table, n, t)
 }
 
-// The tokens of a line from `from` on, as many as there is room for; answers how many numbers they take.
+// Writes the tokens of a line from `from` on, as many as there is room for; answers how many numbers they take.
 pub fn tokens_of(line: &[u8], from: usize, table: &mut [u32]) -> usize {
     let mut at = from;
     let mut n = 0;
     while at < line.len() {
         let start = word_start(line, at);
         let end = word_end(line, start);
-        n = take_word(line, start, end, table, n);
+        n = push_word_token(line, start, end, table, n);
         at = end + 1;
     }
     n
 }
 
-// Is it a sign, a part of one, or a quote?
+// Tells if a byte is a sign, a part of one, or a quote.
 fn is_mark(b: u8) -> bool {
     match b {
         b'!' | b'"' | b'%' | b'\''..=b'/' | b';'..=b'>' | b'^' => true,
@@ -93,10 +94,11 @@ fn is_mark(b: u8) -> bool {
     }
 }
 
+// Tells if a word has such a byte.
 fn has_mark(word: &[u8]) -> bool {
     let mut i = 0;
     while i < word.len() {
-        if is_mark(byte(word, i)) {
+        if is_mark(byte_or_zero(word, i)) {
             return true;
         }
         i += 1;
@@ -104,7 +106,7 @@ fn has_mark(word: &[u8]) -> bool {
     false
 }
 
-// Is a word a name with a sign or a quote in it? One was likely meant as several tokens.
+// Tells if a word is a name with a sign or a quote in it: it was likely meant as several tokens.
 fn doubtful(word: &[u8]) -> bool {
     if kind_of(word) == kind::IDENT {
         has_mark(word)
@@ -113,7 +115,7 @@ fn doubtful(word: &[u8]) -> bool {
     }
 }
 
-// The first doubtful word from `from` on.
+// Finds the first doubtful word from `from` on.
 pub fn first_doubt(line: &[u8], from: usize) -> Doubt {
     let mut at = from;
     while at < line.len() {

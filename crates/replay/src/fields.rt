@@ -6,99 +6,109 @@ ghost use Prim.Native.Nat.{_+_, _≤_, _<_, _^_};
 ghost use lib.ListN.{length};
 
 // The fields read so far, and what the bytes of the next one have come to.
-pub struct Open {
+pub struct FieldsSoFar {
     pub count: usize,
     pub value: u64,
 }
 
-// One more digit; what does not fit wraps.
-fn more(value: u64, b: u8) -> u64 {
+// Answers a number after one more digit; what does not fit wraps.
+fn with_digit(value: u64, b: u8) -> u64 {
     let tens = value % 1844674407370955162 * 10;
     std::num::wrapping_add_u64(tens, (b % 16) as u64)
 }
 
-// A field after one more byte: a digit goes on with a number, and any other byte stands for itself.
+// Answers a field after one more byte: a digit goes on with a number, and any other byte stands for itself.
 fn grown(value: u64, b: u8) -> u64 {
     if b < b'0' {
         b as u64
     } else if b <= b'9' {
-        more(value, b)
+        with_digit(value, b)
     } else {
         b as u64
     }
 }
 
-// The fields after one more byte of the line.
-fn step(out: &mut [u64], so: Open, b: u8) -> Open
-    requires { ⌜ so .count + 1 < 2 ^ 64 ⌝ }
-    ensures { λ r. ⌜ (r .count ≤ so .count + 1) × (length (now (out .exit)) ≡ length (now (out .entry))) ⌝ }
+// Reads one more byte of the line; writes the field that it ends.
+fn step(out: &mut [u64], before: FieldsSoFar, b: u8) -> FieldsSoFar
+    requires { ⌜ before .count + 1 < 2 ^ 64 ⌝ }
+    ensures { λ r. ⌜ (r .count ≤ before .count + 1) × (length (now (out .exit)) ≡ length (now (out .entry))) ⌝ }
 {
-    let n = so.count;
-    let value = so.value;
+    let n = before.count;
+    let value = before.value;
     if b == b' ' {
         store(out, n, value);
-        Open {
+        FieldsSoFar {
             count: n + 1,
             value: 0,
         }
     } else {
-        Open {
+        FieldsSoFar {
             count: n,
             value: grown(value, b),
         }
     }
 }
 
-// The fields of a line, as many as there are places for, and how many there are.
+// Reads the fields of a line: writes as many as there are places for, and answers how many there are.
 pub fn fields_of(s: &[u8], out: &mut [u64]) -> usize
     ensures { λ _. ⌜ length (now (out .exit)) ≡ length (now (out .entry)) ⌝ }
 {
-    let mut so = Open { count: 0, value: 0 };
+    let mut so_far = FieldsSoFar { count: 0, value: 0 };
     let mut i = 0;
     while i < s.len() {
-        so = step(out, so, s[i]);
+        so_far = step(out, so_far, s[i]);
         i += 1;
     }
-    let n = so.count;
-    store(out, n, so.value);
+    let n = so_far.count;
+    store(out, n, so_far.value);
     n + 1
 }
 
-// Field `from` as a count of at most `most`.
-pub fn count_at(f: &[u64], from: usize, most: usize) -> usize
+// Answers field `from` as a count of at most `most`.
+pub fn count_at(fields: &[u64], from: usize, most: usize) -> usize
     ensures { λ r. ⌜ r ≤ most ⌝ }
 {
-    let n = field(f, from, 0) as usize;
+    let n = field(fields, from, 0) as usize;
     if n <= most { n } else { most }
 }
 
-// The fields from `from` on, as bytes.
-pub fn bytes(f: &[u64], from: usize, out: &mut [u8])
+// Writes the fields from `from` on, as bytes.
+pub fn write_bytes(fields: &[u64], from: usize, out: &mut [u8])
     ensures { λ _. ⌜ length (now (out .exit)) ≡ length (now (out .entry)) ⌝ }
 {
     let mut i = 0;
     while i < out.len() {
-        out[i] = (field(f, from, i) % 256) as u8;
+        out[i] = (field(fields, from, i) % 256) as u8;
         i += 1;
     }
 }
 
-// And as they are.
-pub fn numbers(f: &[u64], from: usize, out: &mut [u64])
+// Writes the fields from `from` on, as they are.
+pub fn write_u64s(fields: &[u64], from: usize, out: &mut [u64])
     ensures { λ _. ⌜ length (now (out .exit)) ≡ length (now (out .entry)) ⌝ }
 {
     let mut i = 0;
     while i < out.len() {
-        out[i] = field(f, from, i);
+        out[i] = field(fields, from, i);
         i += 1;
     }
 }
 
-// Are these the fields from `from` on?
-pub fn same(a: &[u64], f: &[u64], from: usize) -> bool {
+// Writes the text and the rows of a predicate, which stand from field 1 on, each after its count; answers the field after them.
+pub fn write_predicate(fields: &[u64], text: &mut [u8], rows: &mut [u64]) -> usize
+    ensures { λ r. ⌜ r ≡ length (now (text .entry)) + 3 + length (now (rows .entry)) ⌝ }
+{
+    write_bytes(fields, 2, text);
+    let from = text.len() + 3;
+    write_u64s(fields, from, rows);
+    from + rows.len()
+}
+
+// Tells if these are the fields from `from` on.
+pub fn equals_u64s(a: &[u64], fields: &[u64], from: usize) -> bool {
     let mut i = 0;
     while i < a.len() {
-        if a[i] != field(f, from, i) {
+        if a[i] != field(fields, from, i) {
             return false;
         }
         i += 1;
@@ -106,8 +116,8 @@ pub fn same(a: &[u64], f: &[u64], from: usize) -> bool {
     true
 }
 
-// Is every number `x`?
-pub fn all(a: &[u64], x: u64) -> bool {
+// Tells if every number is `x`.
+pub fn all_equal(a: &[u64], x: u64) -> bool {
     let mut i = 0;
     while i < a.len() {
         if a[i] != x {

@@ -1,8 +1,7 @@
 // The stored answers of the original's lookups: a line of split.txt is `L`, a text, a predicate's rows, a clause, and `N` where it is no lookup, or `V` with
 // the column and the values, each as a constant.
-use crate::fields::bytes;
 use crate::fields::count_at;
-use crate::fields::numbers;
+use crate::fields::write_predicate;
 use lines::numbers::field;
 use lookup::FoundValue;
 use lookup::LookedUp;
@@ -14,40 +13,46 @@ const TEXT: usize = 1024;
 
 const ROWS: usize = 256;
 
-// Is value i of the clause the three fields from `at` on?
-fn value_is(text: &[u8], rows: &[u64], clause: usize, i: usize, f: &[u64], at: usize) -> bool {
+// No stored clause has a higher number.
+const CLAUSE_MAX: usize = 4096;
+
+// Fields of a constant: its kind and its two numbers.
+const CONSTANT_WIDTH: usize = 3;
+
+// Tells if value i of the clause is the constant of the fields from `at` on.
+fn value_is(text: &[u8], rows: &[u64], clause: usize, i: usize, fields: &[u64], at: usize) -> bool {
     let v = lookup::value_at(text, rows, clause, i);
     let FoundValue::Found(value) = v else {
         return false;
     };
     let constant = constant_of(value);
-    if constant.kind != field(f, at, 0) {
+    if constant.kind != field(fields, at, 0) {
         return false;
     }
-    if constant.x != field(f, at, 1) {
+    if constant.x != field(fields, at, 1) {
         return false;
     }
-    constant.y == field(f, at, 2)
+    constant.y == field(fields, at, 2)
 }
 
-// Are the values of the clause those of the fields from `from` on, to the last field?
+// Tells if the values of the clause are those of the fields from `from` on.
 fn values_are(
     text: &[u8],
     rows: &[u64],
     clause: usize,
     count: usize,
-    f: &[u64],
+    fields: &[u64],
     from: usize,
 ) -> bool {
     let mut i = 0;
     while i < count {
-        if f.len() / 3 <= i {
+        if fields.len() / CONSTANT_WIDTH <= i {
             return false;
         }
-        if f.len() < from {
+        if fields.len() < from {
             return false;
         }
-        if !value_is(text, rows, clause, i, f, from + i * 3) {
+        if !value_is(text, rows, clause, i, fields, from + i * CONSTANT_WIDTH) {
             return false;
         }
         i += 1;
@@ -55,7 +60,7 @@ fn values_are(
     true
 }
 
-// Is there no value after the last one?
+// Tells if there is no value after the last one.
 fn no_more(text: &[u8], rows: &[u64], clause: usize, count: usize) -> bool {
     let v = lookup::value_at(text, rows, clause, count);
     match v {
@@ -68,31 +73,31 @@ fn no_more(text: &[u8], rows: &[u64], clause: usize, count: usize) -> bool {
     }
 }
 
-// Is the answer what the fields from `at` on say?
-fn answer_is(text: &[u8], rows: &[u64], clause: usize, f: &[u64], at: usize) -> bool {
+// Tells if the answer is what the fields from `at` on say.
+fn answer_is(text: &[u8], rows: &[u64], clause: usize, fields: &[u64], at: usize) -> bool {
     let v = lookup::lookup(text, rows, clause);
     match v {
         LookedUp::OnColumn(column, count) => {
-            if field(f, at, 0) != b'V' as u64 {
+            if field(fields, at, 0) != b'V' as u64 {
                 return false;
             }
-            if field(f, at, 1) != column as u64 {
+            if field(fields, at, 1) != column as u64 {
                 return false;
             }
-            if field(f, at, 2) != count as u64 {
+            if field(fields, at, 2) != count as u64 {
                 return false;
             }
-            if f.len() <= at {
+            if fields.len() <= at {
                 return false;
             }
             if !no_more(text, rows, clause, count) {
                 return false;
             }
-            values_are(text, rows, clause, count, f, at + 3)
+            values_are(text, rows, clause, count, fields, at + 3)
         }
         LookedUp::Refused(why, _) => {
             if let Refusal::NotLookup = why {
-                field(f, at, 0) == b'N' as u64
+                field(fields, at, 0) == b'N' as u64
             } else {
                 false
             }
@@ -100,21 +105,18 @@ fn answer_is(text: &[u8], rows: &[u64], clause: usize, f: &[u64], at: usize) -> 
     }
 }
 
-// The same with what is lent: a text and rows, filled from the fields.
-fn look_lent(f: &[u64], text: &mut [u8], rows: &mut [u64]) -> bool {
-    bytes(f, 2, text);
-    let tail = text.len();
-    numbers(f, tail + 3, rows);
-    let at = tail + 3 + rows.len();
-    let clause = count_at(f, at, 4096);
-    answer_is(text, rows, clause, f, at + 1)
+// Writes the stored text and rows to these, looks the clause up, and tells if the answer is the stored one.
+fn look_lent(fields: &[u64], text: &mut [u8], rows: &mut [u64]) -> bool {
+    let at = write_predicate(fields, text, rows);
+    let clause = count_at(fields, at, CLAUSE_MAX);
+    answer_is(text, rows, clause, fields, at + 1)
 }
 
-// Do the lookup entries answer what is stored?
-pub fn look_case(f: &[u64]) -> bool {
+// Tells if the lookup entries answer what is stored.
+pub fn look_case(fields: &[u64]) -> bool {
     let mut text = [0u8; TEXT];
     let mut rows = [0u64; ROWS * WIDTH];
-    let length = count_at(f, 1, TEXT);
-    let many = count_at(f, length + 2, ROWS) * WIDTH;
-    look_lent(f, &mut text[0..length], &mut rows[0..many])
+    let length = count_at(fields, 1, TEXT);
+    let many = count_at(fields, length + 2, ROWS) * WIDTH;
+    look_lent(fields, &mut text[0..length], &mut rows[0..many])
 }

@@ -3,20 +3,26 @@
 use fields::fields_of;
 use libc::STDOUT_FILENO;
 use lines::numbers::field;
-use lines::scan::until;
+use lines::scan::find_byte;
 
 mod fields;
 mod looking;
 mod reading;
 mod splitting;
 
-ghost use Prim.Native.Nat.{_+_, _≤_};
-ghost use lib.ListN.{length};
+ghost use Prim.Native.Nat.{_+_, _≤_, _<_, _^_};
 
 // Bytes of a list, and fields of a line.
 const LIST: usize = 131072;
 
 const FIELDS: usize = 2048;
+
+// The letters that a case begins with.
+const LOOK: u64 = b'L' as u64;
+
+const PARSE: u64 = b'P' as u64;
+
+const SPLIT: u64 = b'S' as u64;
 
 // The lines so far, those that differ, and the first of these.
 pub struct Tally {
@@ -25,19 +31,19 @@ pub struct Tally {
     pub first: u64,
 }
 
-// Does the library answer what a line says?
-fn case(f: &[u64]) -> bool {
-    match field(f, 0, 0) {
-        76 => looking::look_case(f),
-        80 => reading::parse_case(f),
-        83 => splitting::split_case(f),
+// Tells if the library answers what the fields of a line say.
+fn answered_as_stored(fields: &[u64]) -> bool {
+    match field(fields, 0, 0) {
+        LOOK => looking::look_case(fields),
+        PARSE => reading::parse_case(fields),
+        SPLIT => splitting::split_case(fields),
         _ => false,
     }
 }
 
-// The tally after one more line.
+// Answers the tally after one more line.
 fn counted(t: Tally, right: bool) -> Tally
-    requires { ⌜ (t .lines + 1 ≤ 131073) × (t .wrong ≤ t .lines) ⌝ }
+    requires { ⌜ (t .lines + 1 < 2 ^ 64) × (t .wrong ≤ t .lines) ⌝ }
     ensures { λ r. ⌜ (r .lines ≤ t .lines + 1) × (r .wrong ≤ r .lines) ⌝ }
 {
     let lines = t.lines + 1;
@@ -57,17 +63,19 @@ fn counted(t: Tally, right: bool) -> Tally
     }
 }
 
-// Does the library answer what this line says? A line with more fields than there are places for is none of ours.
+// Tells if the library answers what this line says. A line with more fields than there are places for counts as wrong.
 fn line_right(line: &[u8]) -> bool {
-    let mut f = [0u64; FIELDS];
-    let n = fields_of(line, &mut f);
-    if n <= FIELDS { case(&f[0..n]) } else { false }
+    let mut fields = [0u64; FIELDS];
+    let n = fields_of(line, &mut fields);
+    if n <= FIELDS {
+        answered_as_stored(&fields[0..n])
+    } else {
+        false
+    }
 }
 
-// Every line of a list.
-fn replayed(s: &[u8]) -> Tally
-    requires { ⌜ length (now s) ≤ 131072 ⌝ }
-{
+// Replays every line of a list.
+fn replayed(s: &[u8]) -> Tally {
     let mut t = Tally {
         lines: 0,
         wrong: 0,
@@ -75,14 +83,14 @@ fn replayed(s: &[u8]) -> Tally
     };
     let mut at = 0;
     while at < s.len() {
-        let end = until(s, at, b'\n');
+        let end = find_byte(s, at, b'\n');
         t = counted(t, line_right(&s[at..end]));
         at = end + 1;
     }
     t
 }
 
-// Says what came of a list.
+// Prints what came of a list.
 fn report(name: &[u8], t: Tally) {
     io::write_all(STDOUT_FILENO, name);
     io::write_all(STDOUT_FILENO, b": ");
@@ -97,7 +105,7 @@ fn report(name: &[u8], t: Tally) {
     io::write_all(STDOUT_FILENO, b"\n");
 }
 
-// A list by its name.
+// Replays a list by its name.
 fn replay(name: &[u8]) {
     let fd = os::open_read(name);
     if fd < 0 {

@@ -10,12 +10,12 @@ use drawing::tree::Family;
 use drawing::tree::draw;
 use limits::ROWS_MAX;
 use limits::TOKENS_MAX;
-use lines::numbers::Taken;
+use lines::numbers::NumbersRead;
 use lines::numbers::numbers_of;
 use lines::numbers::write_u32s;
-use lines::scan::find;
-use lines::scan::last;
-use lines::scan::until;
+use lines::scan::find_byte;
+use lines::scan::find_last_byte;
+use lines::scan::place_in_list;
 use lines::scan::word_at;
 use lines::scan::word_end;
 use lines::scan::word_start;
@@ -40,7 +40,7 @@ const MOST_32: u64 = 4294967295;
 
 const MOST_64: u64 = 18446744073709551615;
 
-// Under a line: a caret below word n from `from` on, or right after the last word where there are fewer. A word is a token, and its quotes are part of it.
+// Prints a caret below word n of the line from `from` on, or right after the last word where there are fewer. The quotes of a String are part of its word.
 fn print_caret(line: &[u8], from: usize, n: usize)
     requires { ⌜ from ≤ length (now line) ⌝ }
 {
@@ -49,7 +49,7 @@ fn print_caret(line: &[u8], from: usize, n: usize)
     print(b"^\n");
 }
 
-// A refusal, with a caret below word n. What is too long has nothing to point at.
+// Prints a refusal, with a caret below word n. What is too long has nothing to point at.
 fn print_refusal_at(line: &[u8], from: usize, n: usize, number: u64, why: Refusal, place: usize)
     requires { ⌜ from ≤ length (now line) ⌝ }
 {
@@ -66,6 +66,7 @@ fn print_row_count(n: usize) {
     print(b"\n");
 }
 
+// Prints how many rows there are, and draws their tree.
 fn draw_counted(family: Family, text: &[u8], tokens: &[u32], rows: &[u64], n: usize) {
     print_row_count(n);
     if n <= rows.len() / WIDTH {
@@ -74,22 +75,23 @@ fn draw_counted(family: Family, text: &[u8], tokens: &[u32], rows: &[u64], n: us
     }
 }
 
-fn least(n: usize, most: usize) -> usize
+// Answers n, but not more than `most`.
+fn at_most(n: usize, most: usize) -> usize
     ensures { λ r. ⌜ r ≤ most ⌝ }
 {
     if n <= most { n } else { most }
 }
 
-// Which word a token begins with: a token is one word, or three where it is typed by its numbers.
+// Answers which word a token begins with: a token is one word, or three where it is typed by its numbers.
 fn word_of(token: usize, by_numbers: bool) -> usize {
     if by_numbers {
-        least(token, TOKENS) * TOKEN_WIDTH
+        at_most(token, TOKENS) * TOKEN_WIDTH
     } else {
         token
     }
 }
 
-// A token table over a text, and what comes of it. The line is where the caret points.
+// Parses a token table over a text, and prints what comes of it. The line is where the caret points.
 fn show_parse(
     text: &[u8],
     line: &[u8],
@@ -110,6 +112,7 @@ fn show_parse(
     }
 }
 
+// Parses the words from `from` on, with two tables to write to.
 fn show_words(line: &[u8], from: usize, number: u64, table: &mut [u32], rows: &mut [u64])
     requires { ⌜ from ≤ length (now line) ⌝ }
 {
@@ -125,7 +128,7 @@ fn print_word(line: &[u8], start: usize, end: usize) {
     }
 }
 
-// Says of the first name that holds a sign or a quote that it is a name.
+// Prints of the first name that holds a sign or a quote that it is a name.
 fn print_doubt(line: &[u8], from: usize, number: u64) {
     match first_doubt(line, from) {
         Doubt::At(start, end) => {
@@ -137,7 +140,7 @@ fn print_doubt(line: &[u8], from: usize, number: u64) {
     }
 }
 
-// The words from `from` on as an expression.
+// Shows the words from `from` on as an expression.
 fn parse_case(line: &[u8], from: usize, number: u64)
     requires { ⌜ from ≤ length (now line) ⌝ }
 {
@@ -147,12 +150,13 @@ fn parse_case(line: &[u8], from: usize, number: u64)
     print_doubt(line, from, number);
 }
 
-// What a line has wrong.
+// Prints what a line has wrong.
 pub fn print_wrong(number: u64, what: &[u8]) {
     print_line_number(number);
     print(what);
 }
 
+// Checks a predicate, and prints its tree and its clauses or the refusal.
 fn show_predicate(text: &[u8], line: &[u8], from: usize, number: u64, rows: &[u64])
     requires { ⌜ from ≤ length (now line) ⌝ }
 {
@@ -163,41 +167,48 @@ fn show_predicate(text: &[u8], line: &[u8], from: usize, number: u64, rows: &[u6
             print_predicate(text, rows, number);
         }
         Checked::Refused(why, place) => {
-            let first = least(place, ROWS) * WIDTH;
+            let first = at_most(place, ROWS) * WIDTH;
             print_refusal_at(line, from, first, number, why, place);
         }
     }
 }
 
-// Says of a word among the numbers that it cannot be taken, and why.
+// Prints of a word among the numbers that it cannot be taken, and why.
 fn print_wrong_word(line: &[u8], start: usize, end: usize, number: u64, why: &[u8]) {
     print_wrong(number, why);
     print_word(line, start, end);
     print(b"\n");
 }
 
-// Says which number could not be taken. `too_large` says it of one that has too many bits.
-fn print_wrong_number(line: &[u8], taken: Taken, number: u64, too_large: &[u8]) {
-    match taken {
-        Taken::All(_) => {}
-        Taken::TooLarge(start, end) => print_wrong_word(line, start, end, number, too_large),
-        Taken::Bad(start, end) => print_wrong_word(line, start, end, number, b"not a number: "),
+// Prints which number could not be taken. `too_large` says it of one that has too many bits.
+fn print_wrong_number(line: &[u8], read: NumbersRead, number: u64, too_large: &[u8]) {
+    match read {
+        NumbersRead::All(_) => {}
+        NumbersRead::TooLarge(start, end) => print_wrong_word(line, start, end, number, too_large),
+        NumbersRead::Bad(start, end) => print_wrong_word(
+            line,
+            start,
+            end,
+            number,
+            b"not a number: ",
+        ),
     }
 }
 
+// Reads the numbers from `from` on as a predicate's rows, and shows it.
 fn show_rows(text: &[u8], line: &[u8], from: usize, number: u64, rows: &mut [u64])
     requires { ⌜ from ≤ length (now line) ⌝ }
 {
-    let taken = numbers_of(line, from, MOST_64, rows);
-    let Taken::All(n) = taken else {
-        print_wrong_number(line, taken, number, b"too large for 64 bits: ");
+    let read = numbers_of(line, from, MOST_64, rows);
+    let NumbersRead::All(n) = read else {
+        print_wrong_number(line, read, number, b"too large for 64 bits: ");
         return;
     };
-    let end = least(n, rows.len());
+    let end = at_most(n, rows.len());
     show_predicate(text, line, from, number, &rows[0..end]);
 }
 
-// The numbers from `from` on as a predicate.
+// Shows the numbers from `from` on as a predicate.
 fn rows_case(text: &[u8], line: &[u8], from: usize, number: u64)
     requires { ⌜ from ≤ length (now line) ⌝ }
 {
@@ -205,6 +216,7 @@ fn rows_case(text: &[u8], line: &[u8], from: usize, number: u64)
     show_rows(text, line, from, number, &mut rows);
 }
 
+// Reads the numbers from `from` on as a token table, and shows it.
 fn show_table(
     text: &[u8],
     line: &[u8],
@@ -216,17 +228,17 @@ fn show_table(
     requires { ⌜ from ≤ length (now line) ⌝ }
 {
     let mut rows = [0u64; ROWS_MAX * WIDTH];
-    let taken = numbers_of(line, from, MOST_32, numbers);
-    let Taken::All(n) = taken else {
-        print_wrong_number(line, taken, number, b"too large for 32 bits: ");
+    let read = numbers_of(line, from, MOST_32, numbers);
+    let NumbersRead::All(n) = read else {
+        print_wrong_number(line, read, number, b"too large for 32 bits: ");
         return;
     };
     write_u32s(numbers, 0, table);
-    let end = least(n, table.len());
+    let end = at_most(n, table.len());
     show_parse(text, line, from, number, &table[0..end], true, &mut rows);
 }
 
-// The numbers from `from` on as a token table over the text.
+// Shows the numbers from `from` on as a token table over the text.
 fn tokens_case(text: &[u8], line: &[u8], from: usize, number: u64)
     requires { ⌜ from ≤ length (now line) ⌝ }
 {
@@ -235,12 +247,12 @@ fn tokens_case(text: &[u8], line: &[u8], from: usize, number: u64)
     show_table(text, line, from, number, &mut numbers, &mut table);
 }
 
-// Which form of case a word opens, counted from 1.
+// Answers which form of case a word opens, counted from 1.
 fn form_of(word: &[u8]) -> usize {
-    find(b"parse rows tokens text", word)
+    place_in_list(b"parse rows tokens text", word)
 }
 
-// What comes after the text: the word `rows` or `tokens`, and numbers.
+// Shows what comes after the text: the word `rows` or `tokens`, and numbers.
 fn after_text(text: &[u8], line: &[u8], from: usize, number: u64)
     requires { ⌜ from ≤ length (now line) ⌝ }
 {
@@ -253,12 +265,12 @@ fn after_text(text: &[u8], line: &[u8], from: usize, number: u64)
     }
 }
 
-// A text between the first and the last quote, and then numbers.
+// Shows a text between the first and the last quote, and then numbers.
 fn text_case(line: &[u8], from: usize, number: u64)
     requires { ⌜ from ≤ length (now line) ⌝ }
 {
-    let open = until(line, from, b'\'');
-    let close = last(line, b'\'');
+    let open = find_byte(line, from, b'\'');
+    let close = find_last_byte(line, b'\'');
     if open < close {
         if close < line.len() {
             let start = open + 1;
@@ -270,7 +282,7 @@ fn text_case(line: &[u8], from: usize, number: u64)
     print_wrong(number, b"after text comes a text in single quotes\n");
 }
 
-// One line, by its first word.
+// Shows one line, by its first word.
 pub fn show_case(line: &[u8], number: u64) {
     let start = word_start(line, 0);
     let end = word_end(line, start);

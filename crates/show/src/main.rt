@@ -6,27 +6,27 @@ use drawing::out::print;
 use drawing::out::try_print;
 use lines::input::Unread;
 use lines::input::read_line;
-use lines::scan::byte;
+use lines::scan::byte_or_zero;
 use lines::scan::word_start;
 
 mod cases;
 
-// A line: copied, and followed by what there is to say of it if it is a case. Blanks before a comment are passed over, as before a case.
-// Answers whether the end of it could be written: a disk that has become full has no room for that either.
+// Copies a line, and prints below it what there is to say of it if it is a case. Blanks before a comment are passed over, as before a case.
+// Tells if the end of it could be written: a disk that has become full has no room for that either.
 fn show_line(line: &[u8], number: u64) -> bool {
     let start = word_start(line, 0);
     if start == line.len() {
         return true;
     }
     print(line);
-    if byte(line, start) != b'#' {
+    if byte_or_zero(line, start) != b'#' {
         print(b"\n");
         show_case(line, number);
     }
     try_print(b"\n")
 }
 
-// A line of so many bytes, of which `line` has those that there are places for.
+// Shows a line of so many bytes, of which `line` has those that there are places for. Tells if the end of it could be written.
 fn show_read(line: &[u8], length: usize, number: u64) -> bool {
     if length <= line.len() {
         return show_line(&line[0..length], number);
@@ -35,14 +35,14 @@ fn show_read(line: &[u8], length: usize, number: u64) -> bool {
     try_print(b"\n")
 }
 
-// How it ended: with the last line, or because a read or a write failed.
+// How the showing ended: with the last line, or because a read or a write failed.
 enum End {
     Shown,
     Unreadable,
     Unwritable,
 }
 
-// Every line. Where a read or a write fails it returns at once, while errno still says why; a line that was cut short is left out.
+// Shows every line. Where a read or a write fails it returns at once, while errno still says why; a line that was cut short is left out.
 fn show_all(fd: i32, chunk: &mut [u8], line: &mut [u8]) -> End {
     let mut unread = Unread { at: 0, end: 0 };
     let mut number: u64 = 0;
@@ -63,6 +63,7 @@ fn show_all(fd: i32, chunk: &mut [u8], line: &mut [u8]) -> End {
     End::Shown
 }
 
+// Shows every line, and says on standard error if a read or a write failed.
 fn show(fd: i32, name: &[u8]) {
     let mut chunk = io::buffer();
     let mut line = io::large_buffer();
@@ -73,6 +74,7 @@ fn show(fd: i32, name: &[u8]) {
     }
 }
 
+// Shows a file.
 fn show_file(path: &[u8]) {
     let fd = os::open_read(path);
     if fd < 0 {
@@ -83,7 +85,7 @@ fn show_file(path: &[u8]) {
     libc::close(fd);
 }
 
-// The file that the first argument names.
+// Shows the file that the first argument names.
 fn show_named() {
     let mut path = io::buffer();
     let n = os::arg(1, &mut path);
@@ -94,6 +96,7 @@ fn show_named() {
     show_file(&path[..n]);
 }
 
+// Writes a message to standard error.
 fn warn(what: &[u8]) {
     io::write_all(libc::STDERR_FILENO, what);
 }

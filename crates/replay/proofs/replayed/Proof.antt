@@ -15,8 +15,8 @@ abbrev μ-loop : tie.MeasureT-loop
 loop-holds : tie.Need-loop-holds Inv-loop μ-loop
 loop-holds c = search needs
 
-until-requires : tie.Need-until-requires Inv-loop μ-loop
-until-requires c κs = search needs
+find-byte-requires : tie.Need-find-byte-requires Inv-loop μ-loop
+find-byte-requires c κs = search needs
 
 sub-line-right : tie.Need-sub-line-right Inv-loop μ-loop
 sub-line-right c = search needs
@@ -52,7 +52,7 @@ replayed-spec =
     Inv-loop
     μ-loop
     loop-holds
-    until-requires
+    find-byte-requires
     sub-line-right
     part-line-right-start
     part-line-right-end

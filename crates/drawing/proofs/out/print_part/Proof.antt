@@ -15,8 +15,8 @@ abbrev μ-loop : tie.MeasureT-loop
 loop-holds : tie.Need-loop-holds Inv-loop μ-loop
 loop-holds c = search needs
 
-until-requires : tie.Need-until-requires Inv-loop μ-loop
-until-requires c κs = search needs
+find-byte-requires : tie.Need-find-byte-requires Inv-loop μ-loop
+find-byte-requires c κs = search needs
 
 sub-print : tie.Need-sub-print Inv-loop μ-loop
 sub-print c = search needs
@@ -55,7 +55,7 @@ print-part-spec =
     Inv-loop
     μ-loop
     loop-holds
-    until-requires
+    find-byte-requires
     sub-print
     part-print-start
     part-print-end

@@ -22,11 +22,11 @@ word-start-requires c κs = search needs
 word-end-requires : tie.Need-word-end-requires Inv-loop μ-loop
 word-end-requires c κs = search needs
 
-take-word-requires : tie.Need-take-word-requires Inv-loop μ-loop
-take-word-requires c κs = search needs
+push-word-number-requires : tie.Need-push-word-number-requires Inv-loop μ-loop
+push-word-number-requires c κs = search needs
 
-enum-known-taken : tie.Need-enum-known-taken Inv-loop μ-loop
-enum-known-taken c = search needs
+enum-known-read : tie.Need-enum-known-read Inv-loop μ-loop
+enum-known-read c = search needs
 
 same-length : tie.Need-same-length Inv-loop μ-loop
 same-length c = search needs
@@ -58,8 +58,8 @@ numbers-of-spec =
     loop-holds
     word-start-requires
     word-end-requires
-    take-word-requires
-    enum-known-taken
+    push-word-number-requires
+    enum-known-read
     same-length
     returns
     add-at

@@ -8,10 +8,10 @@ use Rattle.lines.proofs.numbers.write_u32s.Statement.{statement}
 use Rattle.lines.proofs.numbers.write_u32s.Tie as tie
 
 abbrev Inv-loop : tie.InvT-loop
-Inv-loop f from out₀ i₀ out i = (i ≤ length out₀) × (length out ≡ length out₀)
+Inv-loop fields from out₀ i₀ out i = (i ≤ length out₀) × (length out ≡ length out₀)
 
 abbrev μ-loop : tie.MeasureT-loop
-μ-loop f from out₀ i₀ out i = length out₀ - i
+μ-loop fields from out₀ i₀ out i = length out₀ - i
 
 loop-holds : tie.Need-loop-holds Inv-loop μ-loop
 loop-holds c = search needs

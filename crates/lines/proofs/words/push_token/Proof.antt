@@ -1,4 +1,4 @@
--- `words::put_token` is safe and ends. Three writes, each within the length that was tested: a write keeps the length. Assumes nothing.
+-- `words::push_token` is safe and ends. Three writes, each within the length that was tested: a write keeps the length. Assumes nothing.
 use lib.ListN.{length-set}
 use native.Mathlib.Omega.{arith}
 use borrow.Author.Needs.{needs}

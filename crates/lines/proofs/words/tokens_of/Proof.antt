@@ -22,8 +22,8 @@ word-start-requires c κs = search needs
 word-end-requires : tie.Need-word-end-requires Inv-loop μ-loop
 word-end-requires c κs = search needs
 
-take-word-requires : tie.Need-take-word-requires Inv-loop μ-loop
-take-word-requires c κs = search needs
+push-word-token-requires : tie.Need-push-word-token-requires Inv-loop μ-loop
+push-word-token-requires c κs = search needs
 
 add-at : tie.Need-add-at Inv-loop μ-loop
 add-at c = search needs
@@ -49,7 +49,7 @@ tokens-of-spec =
     loop-holds
     word-start-requires
     word-end-requires
-    take-word-requires
+    push-word-token-requires
     add-at
     loop-less
     loop-again

@@ -8,10 +8,10 @@ use Rattle.replay.proofs.fields.fields_of.Statement.{statement}
 use Rattle.replay.proofs.fields.fields_of.Tie as tie
 
 abbrev Inv-loop : tie.InvT-loop
-Inv-loop s out₀ so₀ i₀ out so i = (i ≤ length s) × (so .count ≤ i) × (length out ≡ length out₀)
+Inv-loop s out₀ soFar₀ i₀ out soFar i = (i ≤ length s) × (soFar .count ≤ i) × (length out ≡ length out₀)
 
 abbrev μ-loop : tie.MeasureT-loop
-μ-loop s out₀ so₀ i₀ out so i = length s - i
+μ-loop s out₀ soFar₀ i₀ out soFar i = length s - i
 
 loop-holds : tie.Need-loop-holds Inv-loop μ-loop
 loop-holds c = search needs

@@ -6,10 +6,10 @@ use Rattle.replay.proofs.looking.values_are.Statement.{statement}
 use Rattle.replay.proofs.looking.values_are.Tie as tie
 
 abbrev Inv-loop : tie.InvT-loop
-Inv-loop text rows clause count f from i₀ i = i ≤ count
+Inv-loop text rows clause count fields from i₀ i = i ≤ count
 
 abbrev μ-loop : tie.MeasureT-loop
-μ-loop text rows clause count f from i₀ i = count - i
+μ-loop text rows clause count fields from i₀ i = count - i
 
 loop-holds : tie.Need-loop-holds Inv-loop μ-loop
 loop-holds c = search needs

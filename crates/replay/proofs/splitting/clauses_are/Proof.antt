@@ -7,22 +7,22 @@ use Rattle.replay.proofs.splitting.clauses_are.Statement.{statement}
 use Rattle.replay.proofs.splitting.clauses_are.Tie as tie
 
 abbrev Inv-loop : tie.InvT-loop
-Inv-loop literals ends f from at₀ start₀ k₀ at start k = k ≤ length ends
+Inv-loop literals ends fields from at₀ start₀ k₀ at start k = k ≤ length ends
 
 abbrev μ-loop : tie.MeasureT-loop
-μ-loop literals ends f from at₀ start₀ k₀ at start k = length ends - k
+μ-loop literals ends fields from at₀ start₀ k₀ at start k = length ends - k
 
 loop-holds : tie.Need-loop-holds Inv-loop μ-loop
 loop-holds c = search needs
 
-mul-wide : tie.Need-mul-wide Inv-loop μ-loop
-mul-wide c = search needs
+mul-u32-to-u64 : tie.Need-mul-u32-to-u64 Inv-loop μ-loop
+mul-u32-to-u64 c = search needs
 
-shared-slice-read-wide : tie.Need-shared-slice-read-wide Inv-loop μ-loop
-shared-slice-read-wide c = search needs
+shared-slice-read-u32-to-u64 : tie.Need-shared-slice-read-u32-to-u64 Inv-loop μ-loop
+shared-slice-read-u32-to-u64 c = search needs
 
-wide-requires : tie.Need-wide-requires Inv-loop μ-loop
-wide-requires c κs = search needs
+u32-to-u64-requires : tie.Need-u32-to-u64-requires Inv-loop μ-loop
+u32-to-u64-requires c κs = search needs
 
 clause-is-requires : tie.Need-clause-is-requires Inv-loop μ-loop
 clause-is-requires c κs = search needs
@@ -52,9 +52,9 @@ clauses-are-spec =
     Inv-loop
     μ-loop
     loop-holds
-    mul-wide
-    shared-slice-read-wide
-    wide-requires
+    mul-u32-to-u64
+    shared-slice-read-u32-to-u64
+    u32-to-u64-requires
     clause-is-requires
     returns
     past-requires

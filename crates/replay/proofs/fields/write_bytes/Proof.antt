@@ -1,17 +1,17 @@
--- `fields::bytes` is safe: the index is below the length, which a write keeps.
+-- `fields::write_bytes` is safe: the index is below the length, which a write keeps.
 -- Assumes nothing.
 use Prim.Native.Nat.{_-_, _≤_}
 use lib.ListN.{length, length-set}
 use mathlib.Core.Path.{_≡_}
 use borrow.Author.Needs.{needs}
-use Rattle.replay.proofs.fields.bytes.Statement.{statement}
-use Rattle.replay.proofs.fields.bytes.Tie as tie
+use Rattle.replay.proofs.fields.write_bytes.Statement.{statement}
+use Rattle.replay.proofs.fields.write_bytes.Tie as tie
 
 abbrev Inv-loop : tie.InvT-loop
-Inv-loop f from out₀ i₀ out i = (i ≤ length out₀) × (length out ≡ length out₀)
+Inv-loop fields from out₀ i₀ out i = (i ≤ length out₀) × (length out ≡ length out₀)
 
 abbrev μ-loop : tie.MeasureT-loop
-μ-loop f from out₀ i₀ out i = length out₀ - i
+μ-loop fields from out₀ i₀ out i = length out₀ - i
 
 loop-holds : tie.Need-loop-holds Inv-loop μ-loop
 loop-holds c = search needs
@@ -40,8 +40,8 @@ same-length c = search needs
 returns : tie.Need-returns Inv-loop μ-loop
 returns c = search needs
 
-pub bytes-spec : {M : Type 1} → statement M
-bytes-spec =
+pub write-bytes-spec : {M : Type 1} → statement M
+write-bytes-spec =
     tie.close
     (tie.spec
     Inv-loop

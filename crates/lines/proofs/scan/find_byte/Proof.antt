@@ -1,9 +1,9 @@
--- `scan::until` is safe and ends. The end stays between the start and the length, and what is left of the bytes falls. Assumes nothing.
+-- `scan::find_byte` is safe and ends. The end stays between the start and the length, and what is left of the bytes falls. Assumes nothing.
 use Prim.Native.Nat.{_-_, _≤_}
 use lib.ListN.{length}
 use borrow.Author.Needs.{needs}
-use Rattle.lines.proofs.scan.until.Statement.{statement}
-use Rattle.lines.proofs.scan.until.Tie as tie
+use Rattle.lines.proofs.scan.find_byte.Statement.{statement}
+use Rattle.lines.proofs.scan.find_byte.Tie as tie
 
 abbrev Inv-loop : tie.InvT-loop
 Inv-loop s at b end₀ end = (at ≤ end) × (end ≤ length s)
@@ -32,8 +32,8 @@ loop-again c = search needs
 returns-2 : tie.Need-returns-2 Inv-loop μ-loop
 returns-2 c = search needs
 
-pub until-spec : {M : Type 1} → statement M
-until-spec =
+pub find-byte-spec : {M : Type 1} → statement M
+find-byte-spec =
     tie.close
     (tie.spec
     Inv-loop

@@ -1,28 +1,28 @@
--- `splitting::same_words` is safe: the index is below the length.
+-- `splitting::equals_u32s` is safe: the index is below the length.
 -- Assumes nothing.
 use Prim.Native.Nat.{_-_, _≤_}
 use lib.ListN.{length}
 use borrow.Author.Needs.{needs}
-use Rattle.replay.proofs.splitting.same_words.Statement.{statement}
-use Rattle.replay.proofs.splitting.same_words.Tie as tie
+use Rattle.replay.proofs.splitting.equals_u32s.Statement.{statement}
+use Rattle.replay.proofs.splitting.equals_u32s.Tie as tie
 
 abbrev Inv-loop : tie.InvT-loop
-Inv-loop a f from i₀ i = i ≤ length a
+Inv-loop a fields from i₀ i = i ≤ length a
 
 abbrev μ-loop : tie.MeasureT-loop
-μ-loop a f from i₀ i = length a - i
+μ-loop a fields from i₀ i = length a - i
 
 loop-holds : tie.Need-loop-holds Inv-loop μ-loop
 loop-holds c = search needs
 
-mul-wide : tie.Need-mul-wide Inv-loop μ-loop
-mul-wide c = search needs
+mul-u32-to-u64 : tie.Need-mul-u32-to-u64 Inv-loop μ-loop
+mul-u32-to-u64 c = search needs
 
-shared-slice-read-wide : tie.Need-shared-slice-read-wide Inv-loop μ-loop
-shared-slice-read-wide c = search needs
+shared-slice-read-u32-to-u64 : tie.Need-shared-slice-read-u32-to-u64 Inv-loop μ-loop
+shared-slice-read-u32-to-u64 c = search needs
 
-wide-requires : tie.Need-wide-requires Inv-loop μ-loop
-wide-requires c κs = search needs
+u32-to-u64-requires : tie.Need-u32-to-u64-requires Inv-loop μ-loop
+u32-to-u64-requires c κs = search needs
 
 field-requires : tie.Need-field-requires Inv-loop μ-loop
 field-requires c κs = search needs
@@ -42,16 +42,16 @@ loop-again c = search needs
 returns-2 : tie.Need-returns-2 Inv-loop μ-loop
 returns-2 c = search needs
 
-pub same-words-spec : {M : Type 1} → statement M
-same-words-spec =
+pub equals-u32s-spec : {M : Type 1} → statement M
+equals-u32s-spec =
     tie.close
     (tie.spec
     Inv-loop
     μ-loop
     loop-holds
-    mul-wide
-    shared-slice-read-wide
-    wide-requires
+    mul-u32-to-u64
+    shared-slice-read-u32-to-u64
+    u32-to-u64-requires
     field-requires
     returns
     add-i

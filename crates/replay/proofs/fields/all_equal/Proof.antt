@@ -1,16 +1,16 @@
--- `fields::same` is safe: the index is below the length.
+-- `fields::all_equal` is safe: the index is below the length.
 -- Assumes nothing.
 use Prim.Native.Nat.{_-_, _≤_}
 use lib.ListN.{length}
 use borrow.Author.Needs.{needs}
-use Rattle.replay.proofs.fields.same.Statement.{statement}
-use Rattle.replay.proofs.fields.same.Tie as tie
+use Rattle.replay.proofs.fields.all_equal.Statement.{statement}
+use Rattle.replay.proofs.fields.all_equal.Tie as tie
 
 abbrev Inv-loop : tie.InvT-loop
-Inv-loop a f from i₀ i = i ≤ length a
+Inv-loop a x i₀ i = i ≤ length a
 
 abbrev μ-loop : tie.MeasureT-loop
-μ-loop a f from i₀ i = length a - i
+μ-loop a x i₀ i = length a - i
 
 loop-holds : tie.Need-loop-holds Inv-loop μ-loop
 loop-holds c = search needs
@@ -20,9 +20,6 @@ mul-if1 c = search needs
 
 shared-slice-read-if1 : tie.Need-shared-slice-read-if1 Inv-loop μ-loop
 shared-slice-read-if1 c = search needs
-
-field-requires : tie.Need-field-requires Inv-loop μ-loop
-field-requires c κs = search needs
 
 returns : tie.Need-returns Inv-loop μ-loop
 returns c = search needs
@@ -39,8 +36,8 @@ loop-again c = search needs
 returns-2 : tie.Need-returns-2 Inv-loop μ-loop
 returns-2 c = search needs
 
-pub same-spec : {M : Type 1} → statement M
-same-spec =
+pub all-equal-spec : {M : Type 1} → statement M
+all-equal-spec =
     tie.close
     (tie.spec
     Inv-loop
@@ -48,7 +45,6 @@ same-spec =
     loop-holds
     mul-if1
     shared-slice-read-if1
-    field-requires
     returns
     add-i
     loop-less
