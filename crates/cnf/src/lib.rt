@@ -2,6 +2,8 @@
 //
 // Where the clauses of a row come from is said of one row at a time, and they are counted without listing one.
 // docs/FORMAT.md has the rules; specs/ has them as definitions.
+#![tactic(auto)]
+
 ghost use Rattle.std.specs.Prelude.{◌≡◌, List};
 ghost use Rattle.predicate.specs.Tree.{tree_at, Sound};
 ghost use Rattle.cnf.specs.Clause.{Literal, join, clauses};
@@ -12,7 +14,7 @@ use limits::{CLAUSES_MAX, LITERALS_MAX};
 use predicate::Shape;
 
 // How many clauses and literals, or that they are too many.
-#[derive(Drop)]
+#[derive(Clone, Copy)]
 pub enum Size {
     TooMany,
     Is(u32, u32),
@@ -20,7 +22,7 @@ pub enum Size {
 
 // Where the clauses of a row, read plainly or negated, come from: an atom's row, negated or not; or a left and a right row, both read negated or not,
 // whose lists are joined crosswise (each clause with each) or one after the other.
-#[derive(Drop)]
+#[derive(Clone, Copy)]
 pub enum Source {
     Atom(usize, bool),
     Joined(usize, usize, bool, bool),

@@ -10,7 +10,7 @@ use crate::test::{Test, test_at};
 use values::{Value, is_undefined, value_of};
 
 // The value that a test looks for, or nothing.
-#[derive(Drop)]
+#[derive(Clone, Copy)]
 pub enum TestValue {
     Nothing,
     One(Value),
@@ -18,7 +18,7 @@ pub enum TestValue {
 
 // What the literals so far make: there are none yet; they are no lookup; or they are one on a column, with so many values, and with the value that is
 // wanted if there are so many.
-#[derive(Drop)]
+#[derive(Clone, Copy)]
 pub enum PartialLookup {
     Empty,
     NotLookup,

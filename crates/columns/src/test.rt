@@ -11,7 +11,7 @@ use values::{Constant, constant_of_row};
 use widths::u64_to_usize;
 
 // That a column equals a constant; that it is NULL (0) or NAN (1); or no such thing.
-#[derive(Drop)]
+#[derive(Clone, Copy)]
 pub enum Test {
     Other,
     Equals(usize, Constant),

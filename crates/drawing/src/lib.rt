@@ -1,4 +1,6 @@
 // Answers drawn for people: trees with indentation, clauses in symbols, lookups with their values, refusals with their names.
+#![tactic(auto)]
+
 pub mod labels;
 pub mod listing;
 pub mod names;

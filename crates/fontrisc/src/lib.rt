@@ -2,6 +2,8 @@
 //
 // A slice is a pointer and a count of elements. Each function but `fontrisc_spelled` returns 0 for an answer, else the refusal's number; then the first
 // number lent for answers is the refusal's place and the others are 0. Which numbers an answer is, the entry's own promise says.
+#![tactic(auto)]
+
 ghost use Rattle.std.specs.Prelude.{◌≡◌};
 ghost use Rattle.tokens.specs.Token.{span_at};
 ghost use Rattle.fontrisc.specs.Face.{ParsesTo, SplitsTo, LooksUpTo, FindsValueTo};

@@ -1,4 +1,5 @@
 // How much there may be of anything. specs/Limits has the same numbers, and the contracts that use them hold the two together.
+#![tactic(auto)]
 
 // Bytes of a text.
 pub const TEXT_MAX: usize = 16384;

@@ -1,5 +1,7 @@
 // Clauses listed: a clause is a chain of cells, and clauses share the ends of their chains, so that each row is visited once however often its
 // clauses are repeated. Then each chain is written out.
+#![tactic(auto)]
+
 ghost use Rattle.std.specs.Prelude.{◌≡◌, false, ◌+◌, ◌*◌, ◌<◌, ◌≤◌, length};
 ghost use Rattle.limits.specs.Limits.{rows_max};
 ghost use Rattle.predicate.specs.Tree.{tree_at, Sound};
@@ -12,7 +14,7 @@ use cnf::{Source, past_nots};
 use widths::{u16_to_usize, u32_to_usize, usize_to_u16, usize_to_u32};
 
 // Where heads stand: the place of the first, and how many there are.
-#[derive(Drop)]
+#[derive(Clone, Copy)]
 pub struct Run {
     pub first: usize,
     pub each: usize,

@@ -7,7 +7,7 @@ use cnf::{Source, past_nots};
 use columns::partial::{PartialLookup, with_literal};
 
 // A row, and the number of a clause of it.
-#[derive(Drop)]
+#[derive(Clone, Copy)]
 pub struct RowClause {
     pub row: usize,
     pub clause: usize,

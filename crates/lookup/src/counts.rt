@@ -11,7 +11,7 @@ use predicate::{Shape, shape_at};
 use widths::u16_to_usize;
 
 // How many clauses a row has in both readings, held at one more than the most that are listed.
-#[derive(Drop)]
+#[derive(Clone, Copy)]
 pub struct ClauseCounts {
     pub plain: u16,
     pub negated: u16,

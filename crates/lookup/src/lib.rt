@@ -3,6 +3,8 @@
 // A question names a clause by its number. The clauses of every row are counted in one pass, and from the counts the clause is found without listing
 // the others: its literals are met one after the other, and make the lookup.
 // docs/FORMAT.md has the rules; specs/ has them as definitions.
+#![tactic(auto)]
+
 use clause::with_clause;
 use cnf::Size;
 use columns::partial::PartialLookup;
@@ -25,21 +27,21 @@ ghost use Rattle.lookup.specs.Answer.{lookup_of, lookup_among, LooksUp, FindsVal
 ghost use Rattle.lookup.specs.ByNumber.{HasClause, with_clause, answer_of, partial_answer};
 
 // What `lookup` answers: the column and how many values there are, or a refusal and its place.
-#[derive(Drop)]
+#[derive(Clone, Copy)]
 pub enum LookedUp {
     OnColumn(usize, usize),
     Refused(Refusal, usize),
 }
 
 // What `value_at` answers: the value, or a refusal and its place.
-#[derive(Drop)]
+#[derive(Clone, Copy)]
 pub enum FoundValue {
     Found(Value),
     Refused(Refusal, usize),
 }
 
 // What both answer from: the column, how many values there are, and the one that is wanted if there are so many.
-#[derive(Drop)]
+#[derive(Clone, Copy)]
 pub enum ClauseAnswer {
     OnColumn(usize, usize, Value),
     Refused(Refusal, usize),

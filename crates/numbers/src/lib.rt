@@ -1,5 +1,7 @@
 // Which spellings are numbers, in one pass over the bytes.
 // docs/FORMAT.md has the rule; specs/ has it as a definition.
+#![tactic(auto)]
+
 ghost use Rattle.std.specs.Prelude.{◌≡◌, ◌+◌, ◌-◌, ◌*◌, ◌≤◌, min, length, drop};
 ghost use Rattle.numbers.specs.Number.{digit as digit_of, digits as digits_of, past_fraction, past_sign, exponent, integer_of, number_of};
 ghost use Rattle.numbers.specs.Run.{held, Digits, Past, DigitsOnly};
@@ -7,7 +9,7 @@ ghost use Rattle.numbers.specs.Run.{held, Digits, Past, DigitsOnly};
 use limits::INTEGER_MAX;
 
 // What a spelling is.
-#[derive(Drop)]
+#[derive(Clone, Copy)]
 pub enum Number {
     Integer(u64),
     Float,
@@ -15,7 +17,7 @@ pub enum Number {
 }
 
 // A run of digits: where it ends, and its value. A value past the largest Integer is held at one more than that.
-#[derive(Drop)]
+#[derive(Clone, Copy)]
 pub struct Run {
     pub end: usize,
     pub value: u64,

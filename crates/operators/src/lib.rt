@@ -1,6 +1,8 @@
 // Operators by the kind of their token: how tightly each binds, and which row it is.
 //
 // docs/FORMAT.md has the precedences; specs/Operator has them as tables.
+#![tactic(auto)]
+
 ghost use Rattle.std.specs.Prelude.{◌≡◌};
 ghost use Rattle.operators.specs.Operator.{infix_of, right_minimum, prefix_of, postfix_of, binds as binds_of};
 

@@ -1,5 +1,7 @@
 // Whole expressions: a table of tokens is checked and read by the reader as one expression, and what is refused leaves a table of zeros.
 // docs/FORMAT.md has the rules; specs/Promise has what `parse` promises, over the trees of grammar/specs/Rules.
+#![tactic(auto)]
+
 ghost use Rattle.limits.specs.Limits.{levels_max};
 ghost use Rattle.grammar.specs.Memory.{Gives, whole_expression};
 ghost use Rattle.parser.specs.Inner.{parsing_out, RefusedAndCleared};
@@ -12,7 +14,7 @@ use tokens::table;
 use tokens::table::Checked;
 
 // What a parse answers: how many rows it wrote, or a refusal and its place.
-#[derive(Drop)]
+#[derive(Clone, Copy)]
 pub enum Parsed {
     Rows(usize),
     Refused(Refusal, usize),

@@ -3,6 +3,8 @@
 // Rows stand in post-order, three numbers each: kind, x and y. One pass over them says whether they are one whole tree, and keeps no table:
 // a row's left side is found by going from its right side down to the first row of that.
 // docs/FORMAT.md has the rules; specs/ has them as definitions.
+#![tactic(auto)]
+
 use limits::{COLUMN_MAX, ROWS_MAX, TEXT_MAX};
 use refusals::Refusal;
 use rows::Row;
@@ -18,7 +20,7 @@ ghost use Rattle.predicate.specs.Check.{SoundBefore, operands_precede, good_at};
 ghost use Rattle.predicate.specs.Read.{read_from, checked_of, Checks};
 
 // What a kind asks of its row.
-#[derive(Drop)]
+#[derive(Clone, Copy)]
 pub enum Class {
     Unknown,
     Null,
@@ -35,7 +37,7 @@ pub enum Class {
 }
 
 // What a row is to a splitter, with its operands' rows: AND, OR and NOT, or part of an atom.
-#[derive(Drop)]
+#[derive(Clone, Copy)]
 pub enum Shape {
     Leaf,
     One(usize),
@@ -46,7 +48,7 @@ pub enum Shape {
 }
 
 // A row's operands.
-#[derive(Drop)]
+#[derive(Clone, Copy)]
 pub enum Arity {
     Nil,
     One(usize),
@@ -221,7 +223,7 @@ fn good_at(text: &[u8], rows: &[u64], r: usize) -> bool
 }
 
 // What the check finds: the root's row, which is the last, or a refusal and its place.
-#[derive(Drop)]
+#[derive(Clone, Copy)]
 pub enum Checked {
     Root(usize),
     Refused(Refusal, usize),

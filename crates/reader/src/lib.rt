@@ -8,6 +8,8 @@
 //
 // The module `shortcut` has what makes filters fast and changes no answer. A call that stays a call in the compiled code is lent `&*text` and
 // `&*tokens`: so the compiler keeps a slice's two halves apart, and reads wait less.
+#![tactic(auto)]
+
 mod shortcut;
 
 ghost use Rattle.std.specs.Prelude.{◌≡◌, ◌≤◌, ◌<◌};

@@ -1,5 +1,7 @@
 // Replays the stored answers of the original (the lists in data/): says how many cases each list has, how many of them the library answers otherwise, and
 // the line of the first that it does.
+#![tactic(auto)]
+
 use fields::fields_of;
 use libc::STDOUT_FILENO;
 use lines::numbers::field;

@@ -1,5 +1,7 @@
 // How a row of either family lies in its table: how many numbers it has, and the one function that reads a row and the one that writes one.
 // What the numbers of a row mean is each family's own.
+#![tactic(auto)]
+
 ghost use Rattle.std.specs.Prelude.{◌≡◌, ◌*◌, ◌<◌, length, replicate};
 ghost use Rattle.std.proofs.lemmas.List.Edits.{sets};
 ghost use Rattle.rows.specs.Layout.{width, numbers, row_count, only_whole, capacity as capacity_of, row_at};
@@ -10,7 +12,7 @@ use limits::ROWS_MAX;
 pub const WIDTH: usize = 3;
 
 // A row, as its numbers.
-#[derive(Drop)]
+#[derive(Clone, Copy)]
 pub struct Row {
     pub kind: u64,
     pub x: u64,

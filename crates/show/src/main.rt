@@ -1,5 +1,7 @@
 // Shows what the library says of each case in a file, or in standard input: a tree, clauses and lookups, or a refusal.
 // README.md describes the form of a case.
+#![tactic(auto)]
+
 use cases::{print_wrong, show_case};
 use drawing::out::{print, try_print};
 use lines::input::{Unread, read_line};

@@ -2,6 +2,8 @@
 //
 // The clauses are counted first, so that nothing is written before it is known to fit. Then they are listed.
 // docs/FORMAT.md has the rules; specs/ has them as definitions.
+#![tactic(auto)]
+
 ghost use Rattle.std.specs.Prelude.{◌≡◌, false, [], ◌∷◌, ◌<◌, ◌≤◌, length};
 ghost use Rattle.limits.specs.Limits.{rows_max, clauses_max, literals_max};
 ghost use Rattle.predicate.specs.Tree.{Tree, root_of, tree_at, Sound};
@@ -17,7 +19,7 @@ use refusals::Refusal;
 use widths::{u16_to_usize, u32_to_usize, usize_to_u32};
 
 // What a predicate is split into: how many clauses and literals were written, or a refusal and its place.
-#[derive(Drop)]
+#[derive(Clone, Copy)]
 pub enum Listed {
     Clauses(usize, usize),
     Refused(Refusal, usize),

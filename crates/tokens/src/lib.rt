@@ -2,5 +2,7 @@
 //
 // A caller lends a text, as bytes, and a table of tokens, three numbers each: kind, start and length in the text. This crate knows
 // the kinds, the check of the table, and the bytes of a token. docs/FORMAT.md has the rules; specs/ has them as definitions.
+#![tactic(auto)]
+
 pub mod kind;
 pub mod table;

@@ -10,7 +10,7 @@ use refusals::Refusal;
 pub const WIDTH: usize = 3;
 
 // A token: its kind, and its span in the text. No token is kind 0 with an empty span.
-#[derive(Drop)]
+#[derive(Clone, Copy)]
 pub struct Token {
     pub kind: u32,
     pub start: u32,
@@ -18,14 +18,14 @@ pub struct Token {
 }
 
 // A part of the text.
-#[derive(Drop)]
+#[derive(Clone, Copy)]
 pub struct Span {
     pub start: usize,
     pub length: usize,
 }
 
 // What the check finds: how many tokens there are, or a refusal and its place.
-#[derive(Drop)]
+#[derive(Clone, Copy)]
 pub enum Checked {
     Good(usize),
     Refused(Refusal, usize),

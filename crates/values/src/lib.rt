@@ -1,4 +1,6 @@
 // Values and constants: what a constant stands for, and the constant that stands for a value.
+#![tactic(auto)]
+
 ghost use Rattle.std.specs.Prelude.{◌≡◌};
 ghost use Rattle.std.specs.Float.{binary64};
 ghost use Rattle.std.specs.Float.Ieee.{of_bits, to_bits};
@@ -10,7 +12,7 @@ use rows::Row;
 use widths::u64_to_usize;
 
 // A constant, as its kind and two numbers. That is three numbers, whatever a row has.
-#[derive(Drop)]
+#[derive(Clone, Copy)]
 pub struct Constant {
     pub kind: u64,
     pub x: u64,
@@ -18,7 +20,7 @@ pub struct Constant {
 }
 
 // What a lookup hands out. A string is a part of the lent text.
-#[derive(Drop)]
+#[derive(Clone, Copy)]
 pub enum Value {
     Null,
     Boolean(bool),

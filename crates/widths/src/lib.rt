@@ -1,4 +1,6 @@
 // Conversions between the widths of whole numbers: each gives the number itself.
+#![tactic(auto)]
+
 ghost use Rattle.std.specs.Prelude.{◌≡◌, ◌<◌, ◌^◌};
 
 pub fn u16_to_usize(x: u16) -> usize

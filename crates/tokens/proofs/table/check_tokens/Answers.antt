@@ -1,0 +1,23 @@
+-- `table::check_tokens` meets its contract. The invariant: from token n on, the check comes to what it comes to from the first.
+use Rattle.std.proofs.Common.{refl, sym, ◌∙◌, rules}
+use mathlib.Core.Path.{refl, sym, ◌∙◌}
+use Rattle.tokens.proofs.TokenTable.{check_begins, check_on, check_off, check_ends}
+use Rattle.tokens.proofs.table.check_tokens.Goals as goal
+
+pub loop-n-init : goal.loop-n-init
+loop-n-init c = (check_begins _ _, refl)
+
+pub returns-then-not-token_good : goal.returns-then-not-token_good
+returns-then-not-token_good c =
+    let loop = c.loop-n in
+    let token-good = c.token_good in
+    check_off _ _ _ loop.invariant.0 (search rules) (sym token-good.ensures ∙ c.if-not-token_good.true)
+
+pub loop-n-preserved : goal.loop-n-preserved
+loop-n-preserved c =
+    let loop = c.loop-n in
+    let token-good = c.token_good in
+    (check_on _ _ _ loop.invariant.0 (search rules) (sym token-good.ensures ∙ c.if-not-token_good.false), refl)
+
+pub returns : goal.returns
+returns c = check_ends _ _ _ c.loop-n.invariant.0 (search rules)

@@ -1,0 +1,13 @@
+-- `table::check_tokens` meets its contract. The invariant: from token n on, the check comes to what it comes to from the first.
+use Rattle.std.proofs.Common.{◌≡◌, ◌-◌}
+use mathlib.Core.Path.{◌≡◌}
+use Prim.Native.Nat.{◌-◌}
+use Rattle.tokens.specs.Token.{token_count}
+use Rattle.tokens.proofs.TokenTable.{Checking}
+use Rattle.tokens.proofs.table.check_tokens.Given as goal
+
+abbrev pub invariant-loop-n : goal.invariant-loop-n
+invariant-loop-n l = Checking l.text l.tokens l.n × (l.whole ≡ token_count l.tokens)
+
+abbrev pub decreases-loop-n : goal.decreases-loop-n
+decreases-loop-n l = token_count l.tokens - l.n

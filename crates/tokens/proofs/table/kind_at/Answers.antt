@@ -1,0 +1,11 @@
+-- `table::kind_at` meets its contract: by its test, the token is there or is none.
+use Rattle.std.proofs.Common.{sym}
+use mathlib.Core.Path.{sym}
+use Rattle.tokens.proofs.TokenTable.{kind_there, kind_missing}
+use Rattle.tokens.proofs.table.kind_at.Goals as goal
+
+pub returns-then-n-tokens : goal.returns-then-n-tokens
+returns-then-n-tokens c = sym (kind_there _ _ c.if-n-tokens.true)
+
+pub returns-else-n-tokens : goal.returns-else-n-tokens
+returns-else-n-tokens c = sym (kind_missing _ _ c.if-n-tokens.false)
