@@ -1,0 +1,12 @@
+-- `numbers::digit` meets its contract: its two tests are those of `digit`.
+use borrow.Author.Tests.{le-leb, lt-leb}
+use Rattle.numbers.specs.Number.{digit}
+use Rattle.numbers.proofs.digit.Goals as goal
+
+pub returns-then-b-ge48 : goal.returns-then-b-ge48
+unfolding digit
+returns-then-b-ge48 c = simp (le-leb _ _ c.if-b-ge48.true)
+
+pub returns-else-b-ge48 : goal.returns-else-b-ge48
+unfolding digit
+returns-else-b-ge48 c = simp (lt-leb _ _ c.if-b-ge48.false)
