@@ -56,6 +56,7 @@ pub enum Arity {
 }
 
 // Answers what a kind asks of its row.
+#[tactic(auto, unfolding(crate::specs::Row::class_of, crate::specs::Row::class_in, crate::specs::Row::classes, crate::specs::Row::is_one_of))]
 fn class_of(kind: u64) -> Class
     ensures { result ≡ class_of kind }
 {
@@ -101,6 +102,7 @@ fn lies_within(text: &[u8], start: u64, size: u64) -> bool
 }
 
 // Answers whether a row of this class may have these numbers.
+#[tactic(auto, unfolding(crate::specs::Row::allowed_of))]
 fn allowed(text: &[u8], class: Class, x: u64, y: u64) -> bool
     ensures { result ≡ allowed_of text.now class x y }
 {
@@ -121,6 +123,7 @@ fn allowed(text: &[u8], class: Class, x: u64, y: u64) -> bool
 }
 
 // Answers what a row of this class is to a splitter.
+#[tactic(auto, unfolding(crate::specs::Row::shape_of))]
 fn shape_of(class: Class, row: Row) -> Shape
     ensures { result ≡ shape_of class row }
 {
@@ -153,6 +156,7 @@ pub fn shape_at(rows: &[u64], r: usize) -> Shape
 }
 
 // Answers the rows of a row's operands.
+#[tactic(auto, unfolding(crate::specs::Row::arity_of))]
 fn operands(s: Shape) -> Arity
     ensures { result ≡ arity_of s }
 {

@@ -1,8 +1,7 @@
 -- `first_of` meets its contract. The invariant: row q can be followed down, and its tree begins where that of row r does. The measure is q.
-use Rattle.std.proofs.Common.{ℕ, ◌≡◌, ◌+◌, ◌-◌, ◌*◌, ◌<◌, ◌≤◌, length, refl, sym, ap, ◌∙◌, arith, rules}
-use mathlib.Core.Path.{◌≡◌, refl, sym, ◌∙◌}
+use Rattle.std.proofs.Common.{refl, sym, ◌∙◌, arith}
+use mathlib.Core.Path.{refl, sym, ◌∙◌}
 use native.Mathlib.Omega.{arith}
-use Rattle.predicate.specs.Tree.{first_at, Sound}
 use Rattle.predicate.proofs.Trees.{sound_below, first_named, falls_named}
 use Rattle.predicate.proofs.first_of.Goals as goal
 
@@ -12,7 +11,6 @@ loop-x-init c = (c.requires, refl)
 pub shape_at-requires : goal.shape_at-requires
 shape_at-requires c = c.loop-x.invariant.0.there
 
--- TODO paths: in-Nil
 pub returns-in-Nil : goal.returns-in-Nil
 returns-in-Nil c =
     let loop = c.loop-x in
@@ -20,7 +18,6 @@ returns-in-Nil c =
     let operands = c.operands-a in
     sym (first_named loop.invariant.0 shape_at.ensures operands.ensures c.in-Nil.is) ∙ loop.invariant.1
 
--- TODO paths: in-One
 pub loop-x-smaller-in-One : goal.loop-x-smaller-in-One
 loop-x-smaller-in-One c =
     let loop = c.loop-x in
@@ -28,7 +25,6 @@ loop-x-smaller-in-One c =
     let operands = c.operands-a in
     falls_named loop.invariant.0 shape_at.ensures operands.ensures c.in-One.is
 
--- TODO paths: in-One, in-One, in-One
 pub loop-x-preserved-in-One : goal.loop-x-preserved-in-One
 loop-x-preserved-in-One c =
     let loop = c.loop-x in
@@ -39,7 +35,6 @@ loop-x-preserved-in-One c =
       sym (first_named loop.invariant.0 shape_at.ensures operands.ensures c.in-One.is) ∙ loop.invariant.1,
     )
 
--- TODO paths: in-Two
 pub loop-x-smaller : goal.loop-x-smaller
 loop-x-smaller c =
     let loop = c.loop-x in
@@ -47,7 +42,6 @@ loop-x-smaller c =
     let operands = c.operands-a in
     (falls_named loop.invariant.0 shape_at.ensures operands.ensures c.in-Two.is).0
 
--- TODO paths: in-Two, in-Two, in-Two
 pub loop-x-preserved : goal.loop-x-preserved
 loop-x-preserved c =
     let loop = c.loop-x in

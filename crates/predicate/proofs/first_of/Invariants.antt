@@ -1,9 +1,7 @@
 -- `first_of` meets its contract. The invariant: row q can be followed down, and its tree begins where that of row r does. The measure is q.
-use Rattle.std.proofs.Common.{ℕ, ◌≡◌, ◌+◌, ◌-◌, ◌*◌, ◌<◌, ◌≤◌, length}
-use mathlib.Core.Path.{◌≡◌, refl, sym, ◌∙◌}
-use native.Mathlib.Omega.{arith}
+use Rattle.std.proofs.Common.{◌≡◌}
+use mathlib.Core.Path.{◌≡◌}
 use Rattle.predicate.specs.Tree.{first_at, Sound}
-use Rattle.predicate.proofs.Trees.{sound_below, first_named, falls_named}
 use Rattle.predicate.proofs.first_of.Given as goal
 
 abbrev pub invariant-loop-x : goal.invariant-loop-x

@@ -1,5 +1,4 @@
 -- `good_at` meets its contract: what it reads of the row is what `good_at` reads.
-use Rattle.std.proofs.Common.{ℕ, ◌≡◌, ◌+◌, ◌-◌, ◌*◌, ◌<◌, ◌≤◌, length, refl, sym, ap, ◌∙◌, arith, rules}
 use Rattle.predicate.proofs.CheckTests.{good_on, good_off}
 use Rattle.predicate.proofs.good_at.Goals as goal
 

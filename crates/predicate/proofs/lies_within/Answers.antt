@@ -1,5 +1,5 @@
 -- `lies_within` meets its contract: where the start is in the text, the sum of start and size fits if the size fits the rest.
-use Rattle.std.proofs.Common.{ℕ, ◌≡◌, ◌+◌, ◌-◌, ◌*◌, ◌<◌, ◌≤◌, length, refl, sym, ap, ◌∙◌, arith, rules}
+use Rattle.std.proofs.Common.{◌+◌, ◌-◌, length, sym, arith}
 use mathlib.Core.Path.{sym}
 use Prim.Native.Nat.{◌+◌, ◌-◌}
 use native.Mathlib.Omega.{arith}

@@ -1,6 +1,6 @@
 -- `operands_precede` meets its contract: for each number of operands its tests are those of `operands_precede`; a row number is one less than another
 -- only if it is smaller.
-use Rattle.std.proofs.Common.{ℕ, ◌≡◌, ◌+◌, ◌-◌, ◌*◌, ◌<◌, ◌≤◌, length, refl, sym, ap, ◌∙◌, arith, rules}
+use Rattle.std.proofs.Common.{arith}
 use native.Mathlib.Omega.{arith}
 use Rattle.predicate.proofs.Stacks.{sound_of}
 use Rattle.predicate.proofs.CheckTests.{precede_nil, precede_one, one_off, right_off, precede_two, left_off}
@@ -11,38 +11,31 @@ first_of-first-requires c =
     let pre = c.requires in
     sound_of pre c.if-y-r.true
 
--- TODO paths: in-Two
 pub returns-then-x-first : goal.returns-then-x-first
 returns-then-x-first c =
-        let if3 = c.if-y-r-2 in
+    let if3 = c.if-y-r-2 in
     precede_two _ _ c.in-Two.is if3.true c.first_of-first.ensures
 
--- TODO paths: in-Two
 pub returns-else-x-first : goal.returns-else-x-first
 returns-else-x-first c =
-        let if3 = c.if-y-r-2 in
+    let if3 = c.if-y-r-2 in
     left_off _ _ c.in-Two.is if3.true c.first_of-first.ensures (λ e. omega (arith, c.if-x-first.false))
 
--- TODO paths: in-Nil
 pub returns-in-Nil : goal.returns-in-Nil
 returns-in-Nil c = precede_nil _ _ c.in-Nil.is
 
--- TODO paths: in-One
 pub returns-then-x-r : goal.returns-then-x-r
 returns-then-x-r c =
-        precede_one _ _ c.in-One.is
+    precede_one _ _ c.in-One.is
 
--- TODO paths: in-One
 pub returns-else-x-r : goal.returns-else-x-r
 returns-else-x-r c =
-        one_off _ _ c.in-One.is (λ e. omega (arith, c.if-x-r.false))
+    one_off _ _ c.in-One.is (λ e. omega (arith, c.if-x-r.false))
 
--- TODO paths: in-Two
 pub returns-else-y-r-2 : goal.returns-else-y-r-2
 returns-else-y-r-2 c =
-        right_off _ _ c.in-Two.is c.if-y-r-2.false
+    right_off _ _ c.in-Two.is c.if-y-r-2.false
 
--- TODO paths: in-Two
 pub returns-else-y-r : goal.returns-else-y-r
 returns-else-y-r c =
-        right_off _ _ c.in-Two.is (λ e. omega (arith, c.if-y-r.false))
+    right_off _ _ c.in-Two.is (λ e. omega (arith, c.if-y-r.false))

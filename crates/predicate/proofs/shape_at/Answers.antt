@@ -1,5 +1,5 @@
 -- `shape_at` meets its contract: the row that is read has that class and shape.
-use Rattle.std.proofs.Common.{ℕ, ◌≡◌, ◌+◌, ◌-◌, ◌*◌, ◌<◌, ◌≤◌, length, refl, sym, ap, ◌∙◌, arith, rules}
+use Rattle.std.proofs.Common.{ap, ◌∙◌}
 use mathlib.Core.Path.{ap, ap₂, ◌∙◌}
 use Rattle.rows.specs.declared.Row.{Row}
 use Rattle.predicate.specs.Row.{class_of, shape_of, shape_at}
