@@ -1,0 +1,20 @@
+-- `count_clauses` meets its contract: an atom's list has one clause of one literal, and of two rows' lists the right one is counted first, and then
+-- the left one's spine.
+-- `count_left_spine` meets its contract. The invariant: row r joined with the list counted so far comes to what was asked for. The measure is r.
+-- The measures of the cycle: twice the row, and one more for `count_left_spine`, which calls `count_clauses` at the same row.
+use Rattle.std.proofs.Common.{◌+◌, ◌*◌}
+use Rattle.cnf.proofs.Counting.{LeftSpine}
+use Prim.Native.Nat.{◌+◌, ◌*◌}
+use Rattle.cnf.proofs.+count_clauses_count_left_spine.Given as goal
+
+abbrev pub invariant-count_left_spine-loop-left : goal.invariant-count_left_spine-loop-left
+invariant-count_left_spine-loop-left l = LeftSpine l.rows l.root l.negated l.crosswise l.initial.size l.r l.r_negated l.size
+
+abbrev pub decreases-count_left_spine-loop-left : goal.decreases-count_left_spine-loop-left
+decreases-count_left_spine-loop-left l = l.r
+
+abbrev pub decreases-count_left_spine : goal.decreases-count_left_spine
+decreases-count_left_spine l = 2 * l.root + 1
+
+abbrev pub decreases-count_clauses : goal.decreases-count_clauses
+decreases-count_clauses l = 2 * l.r
