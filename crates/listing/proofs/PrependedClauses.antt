@@ -13,7 +13,7 @@ use Rattle.cnf.specs.Clause.{Literal, literal_number, cross, total}
 use Rattle.listing.specs.Chain.{chain_of, CellsMade, ChainsSpell}
 use Rattle.listing.specs.Heads.{Prepended, CopySafe, Copied}
 use Rattle.listing.specs.Listing.{RoomToPrepend, ClausesPrepended, Frontier}
-use Rattle.cnf.proofs.Crossing.{get_before, before, cross_append, cross_cross, cross_one}
+use Rattle.cnf.proofs.Crossing.{get_before, cross_append, cross_cross, cross_one}
 use Rattle.cnf.proofs.Sizes.{length_cross, total_append, total_cross}
 use Rattle.listing.proofs.Chains.{chain_step, chain_unchanged, prepended_cells}
 

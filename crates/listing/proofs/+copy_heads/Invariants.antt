@@ -1,0 +1,5 @@
+-- The measure of `copy_heads`.
+use Rattle.listing.proofs.+copy_heads.Given as goal
+
+abbrev pub decreases-copy_heads : goal.decreases-copy_heads
+decreases-copy_heads l = l.each
