@@ -18,7 +18,7 @@ use Rattle.syntax.specs.Kind as row
 use Rattle.operators.specs.Operator.{binds, prefix_of}
 use Rattle.grammar.specs.Atom.{start_of}
 use Rattle.grammar.specs.declared.Start.{Start}
-use Rattle.grammar.specs.Memory.{Out, done, refuse, then, past, push_row, push_leaf, push_over_last, fuel, Rec, missing, need, null_or_nan, postfix}
+use Rattle.grammar.specs.Memory.{done, refuse, then, past, push_row, push_leaf, push_over_last, fuel, Rec, missing, need, null_or_nan, postfix}
 use Rattle.grammar.specs.Memory.{column, argument, arguments, named, atom, operand, level, expression, finish}
 use Rattle.grammar.specs.declared.Cursor.{Cursor}
 use Rattle.grammar.proofs.Loops.{one_less}
