@@ -1,6 +1,5 @@
 -- `bits_of` meets its contract: only a NaN differs from itself, and it has the one pattern.
 use Rattle.std.proofs.Common.{sym, ◌∙◌}
-use mathlib.Core.Path.{sym, ◌∙◌}
 use Rattle.values.proofs.NanPatterns.{differs_if_nan, one_nan_pattern, not_a_nan}
 use Rattle.values.proofs.bits_of.Goals as goal
 

@@ -1,6 +1,5 @@
 -- `constant_of` meets its contract: by the value's case.
 use Rattle.std.proofs.Common.{ap, ◌∙◌, arith}
-use mathlib.Core.Path.{ap, ◌∙◌}
 use mir.Facts.{to_z-of_z}
 use mir.Syntax.{w64}
 use Rattle.values.specs.Value.{pattern_of}

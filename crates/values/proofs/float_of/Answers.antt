@@ -1,6 +1,5 @@
 -- `float_of` meets its contract: one comparison of the 63 low bits tells a pattern of a NaN.
 use Rattle.std.proofs.Common.{sym, ◌∙◌}
-use mathlib.Core.Path.{sym, ◌∙◌}
 use Rattle.values.proofs.NanPatterns.{above_infinity, up_to_infinity, zero_by_zero_is_nan}
 use Rattle.values.proofs.float_of.Goals as goal
 

@@ -1,6 +1,5 @@
 -- `is_undefined` meets its contract: a float differs from itself exactly if it is the NaN.
 use Rattle.std.proofs.Common.{sym, ap, ◌∙◌}
-use mathlib.Core.Path.{sym, ap, ◌∙◌}
 use Rattle.values.specs.Value.{is_undefined}
 use Rattle.values.proofs.NanPatterns.{differs_if_nan}
 use Rattle.values.proofs.is_undefined.Goals as goal

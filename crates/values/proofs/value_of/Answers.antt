@@ -1,6 +1,6 @@
 -- `value_of` meets its contract: each arm is the value of its kind.
 use Rattle.std.proofs.Common.{ap, ◌∙◌, arith}
-use mathlib.Core.Path.{ap, ap₂, ◌∙◌}
+use mathlib.Core.Path.{ap₂}
 use mir.Facts.{to_z-of_z}
 use mir.Syntax.{w64}
 use Rattle.values.specs.Value.{value_by}
