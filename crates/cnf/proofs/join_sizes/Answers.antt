@@ -8,14 +8,12 @@ use Rattle.cnf.specs.Size.{join_sizes}
 use Rattle.cnf.proofs.Sizes.{limited_is}
 use Rattle.cnf.proofs.join_sizes.Goals as goal
 
--- TODO paths: in_default
 pub returns-in_default : goal.returns-in_default
 unfolding join_sizes
 returns-in_default c =
     let args = c.args in
     sym (ap (λ s. join_sizes args.crosswise s args.b) c.in_default.is)
 
--- TODO paths: in_default-b
 pub returns-in_default-b : goal.returns-in_default-b
 unfolding join_sizes
 returns-in_default-b c =

@@ -12,7 +12,6 @@ count_clauses-size-requires c =
     let pre = c.requires in
     pre.0
 
--- TODO paths: in_default
 pub returns-in_default : goal.returns-in_default
 returns-in_default c =
     let args = c.args in
