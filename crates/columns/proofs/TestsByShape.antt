@@ -73,7 +73,8 @@ module _ {l : List ℕ} {r : ℕ} (h : Sound l r) {s : Shape} (e : s ≡ shape_a
 
 module _ {l : List ℕ} {r : ℕ} (h : Sound l r) {s : Shape} (e : s ≡ shape_at l r) where
   -- a row tests what its node tests
-  pub test_node : {k : Shape} {t : Test} → s ≡ k → test_of (node_of k r (row_at l r) (map (tree_at l) (operands_of (arity_of k)))) ≡ t → t ≡ test_of (tree_at l r)
+  pub test_node : {k : Shape} {t : Test} → s ≡ k → test_of (node_of k r (row_at l r) (map (tree_at l) (operands_of (arity_of k)))) ≡ t →
+      t ≡ test_of (tree_at l r)
   test_node f g = sym (ap test_of (node_at h e f) ∙ g)
 
   pub test_is : {x : ℕ} → s ≡ shape.One x → (row_at l r).kind ≡ kind.is → is_test (leaf_of (tree_at l x)) (row_at l r).y ≡ test_of (tree_at l r)
@@ -84,7 +85,8 @@ module _ {l : List ℕ} {r : ℕ} (h : Sound l r) {s : Shape} (e : s ≡ shape_a
   unfolding test_of node_of arity_of operands_of
   test_unary f g = test_node f (rw (ne_eqb (row_at l r).kind kind.is g, test_of))
 
-  pub test_equal : {x y : ℕ} → s ≡ shape.Two x y → (row_at l r).kind ≡ kind.equal → equal_test (leaf_of (tree_at l x)) (leaf_of (tree_at l y)) ≡ test_of (tree_at l r)
+  pub test_equal : {x y : ℕ} → s ≡ shape.Two x y → (row_at l r).kind ≡ kind.equal →
+      equal_test (leaf_of (tree_at l x)) (leaf_of (tree_at l y)) ≡ test_of (tree_at l r)
   unfolding test_of node_of arity_of operands_of
   test_equal f g = test_node f (rw (eq-eqb (row_at l r).kind kind.equal g, test_of))
 

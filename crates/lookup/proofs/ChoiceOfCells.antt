@@ -58,7 +58,8 @@ module _ (text : List ℕ) (world : World) (ρ : ℕ → kleene.Value) where
   same_append [] ys p q = q
   same_append (x ∷ xs) ys p q = (p.0, same_append xs ys p.1 q)
 
-  same_before : (a : List Literal) (ys : List (List Literal)) → kleene.any_of ρ (map literal_number a) ≡ clause_value text world a → Same ys → Same (before a ys)
+  same_before : (a : List Literal) (ys : List (List Literal)) → kleene.any_of ρ (map literal_number a) ≡ clause_value text world a → Same ys →
+      Same (before a ys)
   same_before a [] p q = tt
   same_before a (y ∷ ys) p q = (any_append ρ a y ∙ ap₂ kleene.OR p q.0 ∙ sym (clause_append a y), same_before a ys p q.1)
 
@@ -126,5 +127,6 @@ module _ (text rows : List ℕ) (world : World) where
     pub choice_value : kleene.value choice t ≡ predicate_value text world t
     choice_value = agrees_value text world choice t root_agrees
 
-    pub choice_clause : (k : ℕ) → kleene.any_of choice (map literal_number (get_or (clauses false t) k [])) ≡ clause_value text world (get_or (clauses false t) k [])
+    pub choice_clause : (k : ℕ) →
+        kleene.any_of choice (map literal_number (get_or (clauses false t) k [])) ≡ clause_value text world (get_or (clauses false t) k [])
     choice_clause k = same_at text world choice (clauses false t) k (same_clauses text world choice false t root_agrees)

@@ -60,7 +60,8 @@ unfolding held_count
 entry_held l r g = omega arith
 
 -- the two numbers that stand for row r
-pub entries : (t : List ℕ) (r : ℕ) (g : Bool) → count_when (record { plain = get_or t (2 * r) 0; negated = get_or t (2 * r + 1) 0 }) g ≡ get_or t (2 * r + bit g) 0
+pub entries : (t : List ℕ) (r : ℕ) (g : Bool) →
+    count_when (record { plain = get_or t (2 * r) 0; negated = get_or t (2 * r + 1) 0 }) g ≡ get_or t (2 * r + bit g) 0
 unfolding count_when
 entries t r false = ap (λ (i : ℕ). get_or t i 0) (sym (add-zero (2 * r)))
 entries t r true = refl

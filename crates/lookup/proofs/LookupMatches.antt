@@ -3,12 +3,12 @@
 -- Assumes nothing.
 use mathlib.Core.Path.{◌≡◌, refl, sym, ap, ap₂, ◌∙◌}
 use Prim.Native.Nat.{ℕ}
-use mathlib.Core.Bool.{Bool, true, false, ◌&&◌, ◌||◌, or-false, or_assoc, and-false, and_true}
+use mathlib.Core.Bool.{Bool, true, false, ◌&&◌, ◌||◌, or-false, or_assoc, and-false, and-true}
 use mathlib.Core.List.{List, [], ◌∷◌, ◌++◌, map}
 use native.Mathlib.Omega.{arith}
 use borrow.Author.Tests.{eqb-true}
 use lib.Dec.{eqb, leb}
-use lib.Ieee.{Float, nan, inf, fin, eq, is_nan}
+use lib.Ieee.{Float, nan, inf, fin, eq, is_nan as is_nan_float}
 use Rattle.predicate.specs.Kind as kind
 use Rattle.predicate.specs.Tree.{Tree, leaf, unary, binary, both, either, negation}
 use Rattle.cnf.specs.Kleene as kleene
@@ -28,8 +28,8 @@ use Rattle.values.specs.declared.Value.{Value}
 use Rattle.values.specs.declared.Value.TheVariants as value
 
 -- NaN equals no float
-no_nan : (x y : Float) → is_nan y ≡ true → eq x y ≡ false
-unfolding eq is_nan
+no_nan : (x y : Float) → is_nan_float y ≡ true → eq x y ≡ false
+unfolding eq is_nan_float
 no_nan nan y e = refl
 no_nan (inf s) nan e = refl
 no_nan (inf s) (inf t) e = let z : ◌≡◌ {A = ℕ} 0 1 = cc in absurd (omega arith)
@@ -47,7 +47,7 @@ null_never (integer n) = refl
 null_never (float x) = refl
 null_never (string s) = refl
 
-nan_never : (cell : Cell) (x : Float) → is_nan x ≡ true → is_true (equal cell (float x)) ≡ false
+nan_never : (cell : Cell) (x : Float) → is_nan_float x ≡ true → is_true (equal cell (float x)) ≡ false
 unfolding equal is_null same
 nan_never null x e = refl
 nan_never (boolean b) x e = refl
@@ -204,11 +204,11 @@ module _ (text : List ℕ) (cell : Cell) where
 
   null_matches : (matches cell (cell_of text value.Null) || false) ≡ is_null cell
   unfolding matches cell_of is_null is_nan
-  null_matches = rw (and_true (is_null cell), and-false (is_nan cell), null_never cell, or-false (is_null cell), or-false (is_null cell))
+  null_matches = rw (and-true (is_null cell), and-false (is_nan cell), null_never cell, or-false (is_null cell), or-false (is_null cell))
 
   nan_matches : (matches cell (cell_of text (value.Float nan)) || false) ≡ is_nan cell
-  unfolding matches cell_of is_null is_nan is_nan
-  nan_matches = rw (and-false (is_null cell), and_true (is_nan cell), nan_never cell nan refl, or-false (is_nan cell), or-false (is_nan cell))
+  unfolding matches cell_of is_null is_nan is_nan_float
+  nan_matches = rw (and-false (is_null cell), and-true (is_nan cell), nan_never cell nan refl, or-false (is_nan cell), or-false (is_nan cell))
 
   is_test_lem : (c y : ℕ) → is_true (test_value text cell (Is c y)) ≡ any_match text cell (value_in (Is c y))
   unfolding test_value value_in any_match is

@@ -1,7 +1,7 @@
 -- Cells, and how they compare (FORMAT §10).
 use Rattle.std.specs.Prelude.{ℕ, Bool, true, false, ◌&&◌, ◌||◌, List, [], ◌∷◌, take, drop, eqb, ℤ, pos, negsuc, Float}
 use Rattle.std.specs.Bool.{beq}
-use Rattle.std.specs.Float.Ieee.{eq, is_nan}
+use Rattle.std.specs.Float.Ieee.{eq, is_nan as is_nan_float}
 use Rattle.cnf.specs.Kleene as kleene
 use Rattle.values.specs.declared.Value.{Value}
 use Rattle.values.specs.declared.Value.TheVariants as value
@@ -33,7 +33,7 @@ unfoldable pub is_nan : Cell → Bool
 is_nan null = false
 is_nan (boolean b) = false
 is_nan (integer n) = false
-is_nan (float x) = is_nan x
+is_nan (float x) = is_nan_float x
 is_nan (string s) = false
 
 unfoldable pub same_integer : ℤ → ℤ → Bool

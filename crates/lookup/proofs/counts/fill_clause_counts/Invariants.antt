@@ -1,0 +1,11 @@
+-- `counts::fill_clause_counts` meets its contract. The invariant: the table has the counts of the rows that were passed.
+use Rattle.std.proofs.Common.{◌≡◌, ◌+◌, ◌-◌, ◌≤◌, length}
+use lib.ListN.{length}
+use Rattle.lookup.specs.ByNumber.{CountsBelow}
+use Rattle.lookup.proofs.counts.fill_clause_counts.Given as goal
+
+abbrev pub invariant-loop-row : goal.invariant-loop-row
+invariant-loop-row l = CountsBelow l.rows l.table l.row × (l.row ≤ l.root + 1) × (length l.table ≡ length l.initial.table)
+
+abbrev pub decreases-loop-row : goal.decreases-loop-row
+decreases-loop-row l = l.root + 1 - l.row
