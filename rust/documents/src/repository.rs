@@ -10,6 +10,9 @@ pub struct Repository {
     words: HashSet<String>,
 }
 
+/// The folders of a crate that have sources.
+const OF_A_CRATE: [&str; 3] = ["src", "specs", "proofs"];
+
 /// The endings of files that are sources.
 const ENDINGS: [&str; 5] = ["antt", "rt", "h", "c", "rs"];
 
@@ -27,12 +30,17 @@ impl Repository {
         here
     }
 
-    /// The sources below crates/, include/ and rust/*/src, but for this crate's own:
-    /// it would vouch for the words of its own tests.
+    /// The sources below include/, rust/*/src and in a crate's own folders, but for
+    /// what the check leaves in its out/, and for this crate's own: it would vouch for
+    /// the words of its own tests.
     fn sources(&self) -> Vec<PathBuf> {
         let members = names_in(&self.path("rust")).into_iter().filter(|name| name != "documents");
         let folders = members.map(|member| format!("rust/{member}/src"));
-        let folders = folders.chain(["crates", "include"].map(str::to_string));
+        let in_crates = self
+            .crates()
+            .into_iter()
+            .flat_map(|owner| OF_A_CRATE.map(|folder| format!("crates/{owner}/{folder}")));
+        let folders = folders.chain(in_crates).chain(["include".to_string()]);
         let files = folders.flat_map(|folder| files(&self.path(&folder)));
         files
             .filter(|file| ENDINGS.iter().any(|e| file.extension().is_some_and(|x| x == *e)))
