@@ -9,7 +9,7 @@ const FILE: &str = "libfontrisc.a";
 /// A relative path counts from the repository root, two folders above this crate.
 fn folder() -> PathBuf {
     let here = std::env::var("CARGO_MANIFEST_DIR").expect("cargo names the crate's folder");
-    let named = std::env::var_os("FONTRISC_LIB").unwrap_or_else(|| "target/staticlib".into());
+    let named = std::env::var_os("FONTRISC_LIB").unwrap_or_else(|| "crates/fontrisc/out".into());
     Path::new(&here).join("../..").join(named)
 }
 
@@ -19,7 +19,7 @@ fn main() {
     let folder = folder();
     let Ok(file) = folder.join(FILE).canonicalize() else {
         eprintln!(
-            "{FILE} is not in `{}`: run `rt staticlib fontrisc` in the repository's root, \
+            "{FILE} is not in `{}`: run `rt lib` in crates/fontrisc, \
              or let FONTRISC_LIB name the folder that holds it.",
             folder.display()
         );
