@@ -22,7 +22,7 @@ use Rattle.operators.proofs.Among.{both}
 use Rattle.grammar.specs.Atom.{start_of}
 use Rattle.grammar.specs.declared.Start.TheVariants as start
 use Rattle.grammar.specs.declared.Cursor.{Cursor}
-use Rattle.grammar.specs.Memory.{Out, done, then, past, push_row, push_leaf, numeral, postfix, postfixes, infixed, infixes, atom, operand, level, expression}
+use Rattle.grammar.specs.Memory.{Out, done, then, past, push_leaf, numeral, postfix, postfixes, infixed, infixes, atom, level, expression}
 use Rattle.grammar.proofs.Loops.{while_off, one_less}
 use Rattle.grammar.proofs.RuleCases.{push_full, push_room, named_column, column_plain, prefix_off, atom_by}
 use Rattle.reader.specs.Shortcut.{may_follow_operand, starts_leaf, single_token_operand, single_token}

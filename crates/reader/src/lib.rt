@@ -32,7 +32,7 @@ use tokens::kind;
 use tokens::table::kind_at;
 
 // Reads an expression at the minimum `min`, with so many levels left: the steps of docs/FORMAT.md §4.4.
-#[cycle(argument_arguments_atom_expression_group_infixed_infixes_named_operand_right_side)]
+#[cycle(reading)]
 pub fn expression(
     text: &[u8],
     tokens: &[u32],
@@ -74,7 +74,7 @@ pub fn expression(
 }
 
 // Reads a prefix operator of at least `min` with its operand, or else an atom.
-#[cycle(argument_arguments_atom_expression_group_infixed_infixes_named_operand_right_side)]
+#[cycle(reading)]
 fn operand(text: &[u8], tokens: &[u32], rows: &mut [u64], c: Cursor, rest: usize, min: u32) -> Step
     requires { c.at ≤ token_count tokens.now }
     ensures { Gives (operand_of text.now tokens.now rest min c rows.old) result rows.new }
@@ -102,7 +102,7 @@ fn operand(text: &[u8], tokens: &[u32], rows: &mut [u64], c: Cursor, rest: usize
 }
 
 // Reads an atom, by what its token starts.
-#[cycle(argument_arguments_atom_expression_group_infixed_infixes_named_operand_right_side)]
+#[cycle(reading)]
 fn atom(text: &[u8], tokens: &[u32], rows: &mut [u64], c: Cursor, rest: usize) -> Step
     requires { c.at ≤ token_count tokens.now }
     ensures { Gives (atom_of text.now tokens.now rest c rows.old) result rows.new }
@@ -120,7 +120,7 @@ fn atom(text: &[u8], tokens: &[u32], rows: &mut [u64], c: Cursor, rest: usize) -
 }
 
 // Reads an expression in parentheses.
-#[cycle(argument_arguments_atom_expression_group_infixed_infixes_named_operand_right_side)]
+#[cycle(reading)]
 fn group(text: &[u8], tokens: &[u32], rows: &mut [u64], c: Cursor, rest: usize) -> Step
     requires { c.at < token_count tokens.now }
     ensures { Gives (group_of text.now tokens.now rest c rows.old) result rows.new }
@@ -142,7 +142,7 @@ fn group(text: &[u8], tokens: &[u32], rows: &mut [u64], c: Cursor, rest: usize) 
 }
 
 // Reads a name: a function, where a parenthesis opens after it, else a column.
-#[cycle(argument_arguments_atom_expression_group_infixed_infixes_named_operand_right_side)]
+#[cycle(reading)]
 fn named(text: &[u8], tokens: &[u32], rows: &mut [u64], c: Cursor, rest: usize) -> Step
     requires { c.at < token_count tokens.now }
     ensures { Gives (named_of text.now tokens.now rest c rows.old) result rows.new }
@@ -158,7 +158,7 @@ fn named(text: &[u8], tokens: &[u32], rows: &mut [u64], c: Cursor, rest: usize) 
 }
 
 // Reads the arguments of the function that token `name` names, up to the closing parenthesis, and writes the function's row.
-#[cycle(argument_arguments_atom_expression_group_infixed_infixes_named_operand_right_side)]
+#[cycle(reading)]
 fn arguments(
     text: &[u8],
     tokens: &[u32],
@@ -200,7 +200,7 @@ fn arguments(
 }
 
 // Reads an argument, after a comma if it is not the first.
-#[cycle(argument_arguments_atom_expression_group_infixed_infixes_named_operand_right_side)]
+#[cycle(reading)]
 fn argument(text: &[u8], tokens: &[u32], rows: &mut [u64], c: Cursor, rest: usize, n: usize) -> Step
     requires { c.at ≤ token_count tokens.now }
     ensures { Gives (argument_of text.now tokens.now rest n c rows.old) result rows.new }
@@ -216,7 +216,7 @@ fn argument(text: &[u8], tokens: &[u32], rows: &mut [u64], c: Cursor, rest: usiz
 }
 
 // Reads the infix operators of at least `min` with their right sides, while there are any.
-#[cycle(argument_arguments_atom_expression_group_infixed_infixes_named_operand_right_side)]
+#[cycle(reading)]
 fn infixes(
     text: &[u8],
     tokens: &[u32],
@@ -250,7 +250,7 @@ fn infix_at(tokens: &[u32], at: usize, min: u32) -> bool
 }
 
 // Reads an infix operator, after its left side, with its right side.
-#[cycle(argument_arguments_atom_expression_group_infixed_infixes_named_operand_right_side)]
+#[cycle(reading)]
 fn infixed(text: &[u8], tokens: &[u32], rows: &mut [u64], c: Cursor, rest: usize) -> Step
     requires { (c.at < token_count tokens.now) × (0 < c.rows) }
     ensures { Gives (infixed_of text.now tokens.now rest c rows.old) result rows.new }
@@ -284,7 +284,7 @@ fn infixed(text: &[u8], tokens: &[u32], rows: &mut [u64], c: Cursor, rest: usize
 }
 
 // Reads a right side, at the minimum `min`. Most often it is one token, and then takes no call.
-#[cycle(argument_arguments_atom_expression_group_infixed_infixes_named_operand_right_side)]
+#[cycle(reading)]
 fn right_side(
     text: &[u8],
     tokens: &[u32],
