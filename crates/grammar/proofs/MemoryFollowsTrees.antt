@@ -203,6 +203,7 @@ module _ (text ts : List ℕ) (cap : ℕ) where
   unfolding M.finish T.finish
   finish_laid t n at x le = either cap (ltb at (token_count ts)) (refusal_laid cap) (tree_laid cap t n at x le)
 
-  pub whole_expression_laid : (levels : ℕ) (t : List ℕ) → Room cap t → Laid cap t 0 (M.whole_expression text ts levels t) (T.whole_expression text ts cap levels)
+  pub whole_expression_laid : (levels : ℕ) (t : List ℕ) → Room cap t →
+      Laid cap t 0 (M.whole_expression text ts levels t) (T.whole_expression text ts cap levels)
   unfolding M.whole_expression T.whole_expression
   whole_expression_laid levels t room = after cap _ _ (expression_laid levels 0 _ t room) (finish_laid t 0)

@@ -46,8 +46,8 @@ answers (T.refuse why at) answer table = record { answer = answer; table = table
 
 module _ (text ts t : List ℕ) (levels : ℕ) where
   -- the table's check, and what it leaves to read
-  pub read_if_good : {k : Checked} {n : ℕ} {r : Step} {u : List ℕ} → k ≡ check_table text ts → k ≡ table.Good n → Gives (whole_expression text ts levels t) r u →
-      Gives (parsing_out text ts levels t) r u
+  pub read_if_good : {k : Checked} {n : ℕ} {r : Step} {u : List ℕ} → k ≡ check_table text ts → k ≡ table.Good n →
+      Gives (whole_expression text ts levels t) r u → Gives (parsing_out text ts levels t) r u
   unfolding parsing_out
   read_if_good is good = gives_same (sym (ap (λ (k : Checked). out_after_check k (whole_expression text ts levels t)) (sym is ∙ good)))
 

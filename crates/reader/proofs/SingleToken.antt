@@ -55,7 +55,8 @@ module _ (ts : List ℕ) (levels m at : ℕ) where
       by true = refl
       by false = refl
 
-  pub single_with_leaf : 0 < levels → starts_leaf (kind_at ts at) ≡ true → single_token_operand ts levels m at ≡ not (may_follow_operand (kind_at ts (at + 1)) m)
+  pub single_with_leaf : 0 < levels → starts_leaf (kind_at ts at) ≡ true →
+      single_token_operand ts levels m at ≡ not (may_follow_operand (kind_at ts (at + 1)) m)
   unfolding single_token_operand
   single_with_leaf some leaf = rw (lt-ltb 0 levels some, leaf)
 

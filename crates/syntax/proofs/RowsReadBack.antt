@@ -17,7 +17,8 @@ use Rattle.rows.specs.declared.Row.{Row}
 use Rattle.rows.proofs.Numbers.{row_of_numbers}
 use Rattle.rows.proofs.StackedOperands.{took}
 use Rattle.syntax.specs.Tree.{Tree, leaf, unary, binary, call, Trees, none, more, size, sizes, many, root, rows_of, rows_all}
-use Rattle.syntax.specs.Read.{Arity, nullary, one, two, counted, arity_of, operands_by, gather, over_one, over_two, node_by, step_at, and_then, read_from, Whole}
+use Rattle.syntax.specs.Read.{Arity, nullary, one, two, counted, arity_of, operands_by, gather, over_one, over_two, node_by, step_at, and_then}
+use Rattle.syntax.specs.Read.{read_from, Whole}
 use Rattle.syntax.proofs.Lengths.{length_rows, length_all}
 
 -- labels that fit a node without operands, over one, over two, and over any number of them: the kind has so many operands, and a number is 0 where the
