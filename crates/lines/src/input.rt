@@ -2,55 +2,44 @@
 ghost use Rattle.std.specs.Prelude.{◌≡◌, length};
 
 use crate::scan::{byte_or_zero, one_more};
+use std::io;
+use std::io::Read;
 
 // Which bytes of the chunk are still unread.
-#[derive(Drop)]
+#[derive(Clone, Copy)]
 pub struct Unread {
     pub at: usize,
     pub end: usize,
 }
 
-// What reading a byte comes to: the byte and what is unread after it, the end of the input, or a read that failed.
-#[derive(Drop)]
+// What reading a byte comes to: the byte and what is unread after it, or the end of the input.
+#[derive(Clone, Copy)]
 pub enum NextByte {
     Byte(u8, Unread),
     End,
-    Failed,
 }
 
-// A line that was read: how long it is, what is unread after it, whether the input ended there, and whether that is because a read failed.
-#[derive(Drop)]
+// A line that was read: how long it is, what is unread after it, and whether the input ended there.
+#[derive(Clone, Copy)]
 pub struct Line {
     pub length: usize,
     pub unread: Unread,
     pub ended: bool,
-    pub failed: bool,
 }
 
 // Reads the next byte, from the chunk or from what is read into it next.
-fn next_byte(fd: i32, chunk: &mut [u8], unread: Unread) -> NextByte {
+fn next_byte(reader: &mut impl Read, chunk: &mut [u8], unread: Unread) -> io::Result<NextByte> {
     let at = unread.at;
     let end = unread.end;
     if at < end {
-        return NextByte::Byte(byte_or_zero(chunk, at), Unread { at: at + 1, end });
+        let after = Unread { at: at + 1, end };
+        return Ok(NextByte::Byte(byte_or_zero(chunk, at), after));
     }
-    let got = libc::read(fd, chunk);
-    if got < 0 {
-        return NextByte::Failed;
-    }
-    let n = io::count(got, chunk);
+    let n = reader.read(chunk)?;
     if n == 0 {
-        return NextByte::End;
+        return Ok(NextByte::End);
     }
-    NextByte::Byte(byte_or_zero(chunk, 0), Unread { at: 1, end: n })
-}
-
-// Tells if a read failed.
-fn has_failed(next: NextByte) -> bool {
-    match next {
-        NextByte::Failed => true,
-        _ => false,
-    }
+    Ok(NextByte::Byte(byte_or_zero(chunk, 0), Unread { at: 1, end: n }))
 }
 
 // Writes a byte where there is a place for it.
@@ -62,38 +51,40 @@ fn store(line: &mut [u8], i: usize, b: u8)
     }
 }
 
-// Reads the next line, as much of it as there are places for.
-pub fn read_line(fd: i32, chunk: &mut [u8], line: &mut [u8], unread: Unread) -> Line {
+// Reads the next line, as much of it as there are places for. Where a read fails, what was read of the line is left out.
+pub fn read_line(
+    reader: &mut impl Read,
+    chunk: &mut [u8],
+    line: &mut [u8],
+    unread: Unread,
+) -> io::Result<Line> {
     let mut rest = unread;
     let mut n = 0;
     let mut left: u64 = 18446744073709551615;
     while 0 < left {
-        let next = next_byte(fd, chunk, rest);
+        let next = next_byte(reader, chunk, rest)?;
         let NextByte::Byte(b, after) = next else {
-            return Line {
+            return Ok(Line {
                 length: n,
                 unread: rest,
                 ended: true,
-                failed: has_failed(next),
-            };
+            });
         };
         rest = after;
         if b == b'\n' {
-            return Line {
+            return Ok(Line {
                 length: n,
                 unread: rest,
                 ended: false,
-                failed: false,
-            };
+            });
         }
         store(line, n, b);
         n = one_more(n);
         left -= 1;
     }
-    Line {
+    Ok(Line {
         length: n,
         unread: rest,
         ended: true,
-        failed: false,
-    }
+    })
 }

@@ -4,7 +4,7 @@ ghost use Rattle.std.specs.Prelude.{◌≡◌, ◌≤◌, length};
 use crate::scan::{byte_or_zero, one_more, word_end, word_start};
 
 // What the digits of a word come to.
-#[derive(Drop)]
+#[derive(Clone, Copy)]
 pub enum Number {
     Value(u64),
     TooLarge,
@@ -12,7 +12,7 @@ pub enum Number {
 }
 
 // How many numbers a line has, or where the first word is that is too large or no number.
-#[derive(Drop)]
+#[derive(Clone, Copy)]
 pub enum NumbersRead {
     All(usize),
     TooLarge(usize, usize),

@@ -7,7 +7,7 @@ use tokens::kind;
 use tokens::table::{Token, WIDTH};
 
 // A word that may be a typing mistake, from where to where, or none.
-#[derive(Drop)]
+#[derive(Clone, Copy)]
 pub enum Doubt {
     At(usize, usize),
     Nothing,
