@@ -1,111 +1,117 @@
-// Printing: writing to standard output.
-use libc::STDOUT_FILENO;
+// Printing: writing to what the caller passes, as standard output.
 use lines::scan::find_byte;
+use std::io;
+use std::io::Write;
 
-// Prints bytes; tells if all of them could be written.
-pub fn try_print(s: &[u8]) -> bool {
-    io::write_all(STDOUT_FILENO, s)
+// Prints bytes.
+pub fn print(out: &mut impl Write, s: &[u8]) -> io::Result<()> {
+    out.write_all(s)
 }
 
-pub fn print(s: &[u8]) {
-    try_print(s);
-}
-
-pub fn print_decimal(n: u64) {
-    io::print_decimal(STDOUT_FILENO, n);
+pub fn print_decimal(out: &mut impl Write, n: u64) -> io::Result<()> {
+    write!(out, "{n}")
 }
 
 // Prints which line a message is of.
-pub fn print_line_number(number: u64) {
-    print(b"  line ");
-    print_decimal(number);
-    print(b": ");
+pub fn print_line_number(out: &mut impl Write, number: u64) -> io::Result<()> {
+    print(out, b"  line ")?;
+    print_decimal(out, number)?;
+    print(out, b": ")
 }
 
 // Prints a float by its bits.
-pub fn print_bits(n: u64) {
-    print(b"0x");
-    io::print_hex(STDOUT_FILENO, n, 16);
+pub fn print_bits(out: &mut impl Write, n: u64) -> io::Result<()> {
+    write!(out, "0x{n:016x}")
 }
 
 // Prints a row number, in four places.
-pub fn print_row_number(n: usize) {
+pub fn print_row_number(out: &mut impl Write, n: usize) -> io::Result<()> {
     if n < 10 {
-        print(b"   ");
+        print(out, b"   ")?;
     } else if n < 100 {
-        print(b"  ");
+        print(out, b"  ")?;
     } else if n < 1000 {
-        print(b" ");
+        print(out, b" ")?;
     }
-    print_decimal(n as u64);
+    print_decimal(out, n as u64)
 }
 
-fn print_step() {
-    print(b"  ");
+fn print_step(out: &mut impl Write) -> io::Result<()> {
+    print(out, b"  ")
 }
 
 // Prints two spaces for each step down a tree.
-pub fn print_indent(depth: usize) {
+pub fn print_indent(out: &mut impl Write, depth: usize) -> io::Result<()> {
     let mut i = 0;
     while i < depth {
-        print_step();
+        print_step(out)?;
         i += 1;
     }
+    Ok(())
 }
 
 // Prints a blank as wide as a byte is on the screen: a tab as it is, nothing for a byte that goes on with a character, and else a space.
-fn print_blank_for(b: u8) {
+fn print_blank_for(out: &mut impl Write, b: u8) -> io::Result<()> {
     if b == 9 {
-        print(b"\t");
+        print(out, b"\t")
     } else if b < 128 {
-        print(b" ");
+        print(out, b" ")
     } else if 192 <= b {
-        print(b" ");
+        print(out, b" ")
+    } else {
+        Ok(())
     }
 }
 
 // Prints blanks as wide as these bytes are on the screen.
-pub fn print_blanks_for(s: &[u8]) {
+pub fn print_blanks_for(out: &mut impl Write, s: &[u8]) -> io::Result<()> {
     let mut i = 0;
     while i < s.len() {
-        print_blank_for(s[i]);
+        print_blank_for(out, s[i])?;
         i += 1;
     }
+    Ok(())
 }
 
 // Prints how many there are of something.
-pub fn print_count(n: usize, what: &[u8]) {
-    print_decimal(n as u64);
-    print(b" ");
-    print(what);
+pub fn print_count(out: &mut impl Write, n: usize, what: &[u8]) -> io::Result<()> {
+    print_decimal(out, n as u64)?;
+    print(out, b" ")?;
+    print(out, what)?;
     if n != 1 {
-        print(b"s");
+        print(out, b"s")?;
     }
+    Ok(())
 }
 
 // Prints a part of a text between quotes.
-pub fn print_quoted(text: &[u8], start: usize, length: usize) {
-    print(b"'");
+pub fn print_quoted(
+    out: &mut impl Write,
+    text: &[u8],
+    start: usize,
+    length: usize,
+) -> io::Result<()> {
+    print(out, b"'")?;
     if start <= text.len() {
         if length <= text.len() - start {
             let end = start + length;
-            print(&text[start..end]);
+            print(out, &text[start..end])?;
         }
     }
-    print(b"'");
+    print(out, b"'")
 }
 
 // Prints part n, counted from 0, of a list with one byte `between` its parts.
-pub fn print_part(list: &[u8], between: u8, n: usize) {
+pub fn print_part(out: &mut impl Write, list: &[u8], between: u8, n: usize) -> io::Result<()> {
     let mut at = 0;
     let mut i = 0;
     while at < list.len() {
         let end = find_byte(list, at, between);
         if i == n {
-            print(&list[at..end]);
-            return;
+            return print(out, &list[at..end]);
         }
         i += 1;
         at = end + 1;
     }
+    Ok(())
 }

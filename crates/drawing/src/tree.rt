@@ -10,10 +10,12 @@ use limits::ROWS_MAX;
 use lines::scan::one_more;
 use predicate::kind as predicate_kind;
 use rows::Row;
+use std::io;
+use std::io::Write;
 use syntax::kind as syntax_kind;
 
 // What the rows are of.
-#[derive(Drop)]
+#[derive(Clone, Copy)]
 pub enum Family {
     Syntax,
     Predicate,
@@ -141,30 +143,45 @@ fn push_operands(
 }
 
 // Prints what stands before a row's name.
-fn print_margin(n: usize, depth: usize) {
-    print(b"  ");
-    print_row_number(n);
-    print(b"  ");
-    print_indent(depth);
+fn print_margin(out: &mut impl Write, n: usize, depth: usize) -> io::Result<()> {
+    print(out, b"  ")?;
+    print_row_number(out, n)?;
+    print(out, b"  ")?;
+    print_indent(out, depth)
 }
 
 // Prints a row's name and what it holds.
-fn print_row(family: Family, text: &[u8], tokens: &[u32], row: Row) {
+fn print_row(
+    out: &mut impl Write,
+    family: Family,
+    text: &[u8],
+    tokens: &[u32],
+    row: Row,
+) -> io::Result<()> {
     match family {
-        Family::Syntax => print_syntax_row(text, tokens, row),
-        Family::Predicate => print_predicate_row(text, row),
+        Family::Syntax => print_syntax_row(out, text, tokens, row),
+        Family::Predicate => print_predicate_row(out, text, row),
     }
 }
 
 // Draws a row on its line.
-fn draw_row(family: Family, text: &[u8], tokens: &[u32], row: Row, n: usize, depth: usize) {
-    print_margin(n, depth);
-    print_row(family, text, tokens, row);
-    print(b"\n");
+fn draw_row(
+    out: &mut impl Write,
+    family: Family,
+    text: &[u8],
+    tokens: &[u32],
+    row: Row,
+    n: usize,
+    depth: usize,
+) -> io::Result<()> {
+    print_margin(out, n, depth)?;
+    print_row(out, family, text, tokens, row)?;
+    print(out, b"\n")
 }
 
 // Draws the row on top of the stack and puts its operands there; answers the stack's new height.
 fn draw_top(
+    out: &mut impl Write,
     family: Family,
     text: &[u8],
     tokens: &[u32],
@@ -173,16 +190,17 @@ fn draw_top(
     depths: &mut [usize],
     stack: &mut [usize],
     top: usize,
-) -> usize {
+) -> io::Result<usize> {
     let n = number_at(stack, top);
     let row = row_or_none(rows, n);
     let depth = number_at(depths, n);
-    draw_row(family, text, tokens, row, n, depth);
-    push_operands(starts, depths, stack, top, n, operands(family, row))
+    draw_row(out, family, text, tokens, row, n, depth)?;
+    Ok(push_operands(starts, depths, stack, top, n, operands(family, row)))
 }
 
 // Draws the row on the stack and all below it, each once.
 fn draw_rows(
+    out: &mut impl Write,
     family: Family,
     text: &[u8],
     tokens: &[u32],
@@ -190,15 +208,16 @@ fn draw_rows(
     starts: &[usize],
     depths: &mut [usize],
     stack: &mut [usize],
-) {
+) -> io::Result<()> {
     let count = rows::count(rows);
     let mut height = 1;
     let mut i = 0;
     while i < count {
         if height == 0 {
-            return;
+            return Ok(());
         }
         height = draw_top(
+            out,
             family,
             text,
             tokens,
@@ -207,13 +226,15 @@ fn draw_rows(
             depths,
             stack,
             height - 1,
-        );
+        )?;
         i += 1;
     }
+    Ok(())
 }
 
 // Draws the tree of these rows, with three tables to work in.
 fn draw_with(
+    out: &mut impl Write,
     family: Family,
     text: &[u8],
     tokens: &[u32],
@@ -221,22 +242,29 @@ fn draw_with(
     starts: &mut [usize],
     depths: &mut [usize],
     stack: &mut [usize],
-) {
+) -> io::Result<()> {
     let count = rows::count(rows);
     if count == 0 {
-        return;
+        return Ok(());
     }
     find_starts(family, rows, starts);
     store(stack, 0, count - 1);
-    draw_rows(family, text, tokens, rows, starts, depths, stack);
+    draw_rows(out, family, text, tokens, rows, starts, depths, stack)
 }
 
 // Draws the tree of these rows, which are good ones.
-pub fn draw(family: Family, text: &[u8], tokens: &[u32], rows: &[u64]) {
+pub fn draw(
+    out: &mut impl Write,
+    family: Family,
+    text: &[u8],
+    tokens: &[u32],
+    rows: &[u64],
+) -> io::Result<()> {
     let mut starts = [0usize; ROWS_MAX];
     let mut depths = [0usize; ROWS_MAX];
     let mut stack = [0usize; ROWS_MAX];
     draw_with(
+        out,
         family,
         text,
         tokens,
@@ -244,5 +272,5 @@ pub fn draw(family: Family, text: &[u8], tokens: &[u32], rows: &[u64]) {
         &mut starts,
         &mut depths,
         &mut stack,
-    );
+    )
 }
