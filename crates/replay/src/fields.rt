@@ -4,7 +4,7 @@ ghost use Rattle.std.specs.Prelude.{◌≡◌, ◌+◌, ◌^◌, ◌<◌, ◌≤
 use lines::numbers::{field, store};
 
 // The fields read so far, and what the bytes of the next one have come to.
-#[derive(Drop)]
+#[derive(Clone, Copy)]
 pub struct FieldsSoFar {
     pub count: usize,
     pub value: u64,

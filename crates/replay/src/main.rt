@@ -3,9 +3,11 @@
 #![tactic(auto)]
 
 use fields::fields_of;
-use libc::STDOUT_FILENO;
 use lines::numbers::field;
 use lines::scan::find_byte;
+use std::process::ExitCode;
+use std::rt::Files;
+use std::{fs, io};
 
 mod fields;
 mod looking;
@@ -14,9 +16,7 @@ mod splitting;
 
 ghost use Rattle.std.specs.Prelude.{◌+◌, ◌^◌, ◌<◌, ◌≤◌};
 
-// Bytes of a list, and fields of a line.
-const LIST: usize = 131072;
-
+// Fields of a line.
 const FIELDS: usize = 2048;
 
 // The letters that a case begins with.
@@ -27,7 +27,7 @@ const PARSE: u64 = b'P' as u64;
 const SPLIT: u64 = b'S' as u64;
 
 // The lines so far, those that differ, and the first of these.
-#[derive(Drop)]
+#[derive(Clone, Copy)]
 pub struct Tally {
     pub lines: u64,
     pub wrong: u64,
@@ -94,34 +94,37 @@ fn replayed(s: &[u8]) -> Tally {
 }
 
 // Prints what came of a list.
-fn report(name: &[u8], t: Tally) {
-    io::write_all(STDOUT_FILENO, name);
-    io::write_all(STDOUT_FILENO, b": ");
-    io::print_decimal(STDOUT_FILENO, t.lines);
-    io::write_all(STDOUT_FILENO, b" cases, ");
-    io::print_decimal(STDOUT_FILENO, t.wrong);
-    io::write_all(STDOUT_FILENO, b" differ");
+fn report(rt: &impl Print, name: &str, t: Tally) -> io::Result<()> {
+    print!(rt; "{name}: {} cases, {} differ", t.lines, t.wrong)?;
     if 0 < t.wrong {
-        io::write_all(STDOUT_FILENO, b", the first in line ");
-        io::print_decimal(STDOUT_FILENO, t.first);
+        print!(rt; ", the first in line {}", t.first)?;
     }
-    io::write_all(STDOUT_FILENO, b"\n");
+    println!(rt)
 }
 
-// Replays a list by its name.
-fn replay(name: &[u8]) {
-    let fd = os::open_read(name);
-    if fd < 0 {
-        os::fail(name);
-        return;
-    }
-    let mut list = [0u8; LIST];
-    let n = io::read_full(fd, &mut list);
-    libc::close(fd);
-    report(name, replayed(&list[0..n]));
+// Says on standard error what failed and why; answers that it did.
+fn fail(rt: &impl Eprint, what: &str, why: io::Error) -> bool {
+    let _ = eprintln!(rt; "{what}: {why}");
+    false
 }
 
-fn main() {
-    replay(b"parse.txt");
-    replay(b"split.txt");
+// Replays a list by its name; tells if it could be read, and what came of it printed.
+fn replay(rt: &(impl Files + Print + Eprint + Alloc), name: &str) -> bool {
+    match fs::read(rt, name) {
+        Ok(list) => match report(rt, name, replayed(&list)) {
+            Ok(()) => true,
+            Err(why) => fail(rt, "standard output", why),
+        },
+        Err(why) => fail(rt, name, why),
+    }
+}
+
+fn main(rt: HostRuntime) -> ExitCode {
+    let parse = replay(&rt, "parse.txt");
+    let split = replay(&rt, "split.txt");
+    if parse && split {
+        ExitCode::SUCCESS
+    } else {
+        ExitCode::FAILURE
+    }
 }

@@ -3,56 +3,65 @@
 #![tactic(auto)]
 
 use cases::{print_wrong, show_case};
-use drawing::out::{print, try_print};
+use drawing::out::print;
 use lines::input::{Unread, read_line};
 use lines::scan::{byte_or_zero, word_start};
+use std::fmt::Display;
+use std::io::{Read, Write};
+use std::process::ExitCode;
+use std::rt::Files;
+use std::{env, fs, io};
 
 mod cases;
 
 // Copies a line, and prints below it what there is to say of it if it is a case. Blanks before a comment are passed over, as before a case.
-// Tells if the end of it could be written: a disk that has become full has no room for that either.
-fn show_line(line: &[u8], number: u64) -> bool {
+fn show_line(out: &mut impl Write, line: &[u8], number: u64) -> io::Result<()> {
     let start = word_start(line, 0);
     if start == line.len() {
-        return true;
+        return Ok(());
     }
-    print(line);
+    print(out, line)?;
     if byte_or_zero(line, start) != b'#' {
-        print(b"\n");
-        show_case(line, number);
+        print(out, b"\n")?;
+        show_case(out, line, number)?;
     }
-    try_print(b"\n")
+    print(out, b"\n")
 }
 
-// Shows a line of so many bytes, of which `line` has those that there are places for. Tells if the end of it could be written.
-fn show_read(line: &[u8], length: usize, number: u64) -> bool {
+// Shows a line of so many bytes, of which `line` has those that there are places for.
+fn show_read(out: &mut impl Write, line: &[u8], length: usize, number: u64) -> io::Result<()> {
     if length <= line.len() {
-        return show_line(&line[0..length], number);
+        return show_line(out, &line[0..length], number);
     }
-    print_wrong(number, b"longer than 65536 bytes, and left out\n");
-    try_print(b"\n")
+    print_wrong(out, number, b"longer than 65536 bytes, and left out\n")?;
+    print(out, b"\n")
 }
 
 // How the showing ended: with the last line, or because a read or a write failed.
-#[derive(Drop)]
+#[derive(Clone, Copy)]
 enum End {
     Shown,
-    Unreadable,
-    Unwritable,
+    Unreadable(io::Error),
+    Unwritable(io::Error),
 }
 
-// Shows every line. Where a read or a write fails it returns at once, while errno still says why; a line that was cut short is left out.
-fn show_all(fd: i32, chunk: &mut [u8], line: &mut [u8]) -> End {
+// Shows every line. Where a read or a write fails it returns at once; a line that was cut short is left out.
+fn show_all(
+    reader: &mut impl Read,
+    out: &mut impl Write,
+    chunk: &mut [u8],
+    line: &mut [u8],
+) -> End {
     let mut unread = Unread { at: 0, end: 0 };
     let mut number: u64 = 0;
     while number < 18446744073709551615 {
         number += 1;
-        let read = read_line(fd, chunk, line, unread);
-        if read.failed {
-            return End::Unreadable;
-        }
-        if !show_read(line, read.length, number) {
-            return End::Unwritable;
+        let read = match read_line(reader, chunk, line, unread) {
+            Ok(read) => read,
+            Err(why) => return End::Unreadable(why),
+        };
+        if let Err(why) = show_read(out, line, read.length, number) {
+            return End::Unwritable(why);
         }
         if read.ended {
             return End::Shown;
@@ -63,51 +72,55 @@ fn show_all(fd: i32, chunk: &mut [u8], line: &mut [u8]) -> End {
 }
 
 // Shows every line, and says on standard error if a read or a write failed.
-fn show(fd: i32, name: &[u8]) {
-    let mut chunk = io::buffer();
-    let mut line = io::large_buffer();
-    match show_all(fd, &mut chunk, &mut line) {
-        End::Shown => {}
-        End::Unreadable => os::fail(name),
-        End::Unwritable => os::fail(b"standard output"),
+fn show(rt: &(impl Print + Eprint), reader: &mut impl Read, name: &str) -> ExitCode {
+    let mut chunk = [0u8; 4096];
+    let mut line = [0u8; 65536];
+    let mut out = io::writer(rt);
+    match show_all(reader, &mut out, &mut chunk, &mut line) {
+        End::Shown => ExitCode::SUCCESS,
+        End::Unreadable(why) => fail(rt, name, why),
+        End::Unwritable(why) => fail(rt, "standard output", why),
     }
 }
 
 // Shows a file.
-fn show_file(path: &[u8]) {
-    let fd = os::open_read(path);
-    if fd < 0 {
-        os::fail(path);
-        return;
+fn show_file(rt: &(impl Files + Print + Eprint), path: &str) -> ExitCode {
+    match fs::open(rt, path) {
+        Ok(mut file) => show(rt, &mut file, path),
+        Err(why) => fail(rt, path, why),
     }
-    show(fd, path);
-    libc::close(fd);
 }
 
-// Shows the file that the first argument names.
-fn show_named() {
-    let mut path = io::buffer();
-    let n = os::arg(1, &mut path);
-    if os::errno() != 0 {
-        os::fail(b"the name of the file");
-        return;
+// Shows the file that the first argument names, of which `more` are those after it.
+fn show_named(rt: &(impl Files + Print + Eprint), path: &str, more: usize) -> ExitCode {
+    if 0 < more {
+        warn(
+            rt,
+            "show takes one file: the first is shown, the others are not",
+        );
     }
-    show_file(&path[..n]);
+    show_file(rt, path)
 }
 
 // Writes a message to standard error.
-fn warn(what: &[u8]) {
-    io::write_all(libc::STDERR_FILENO, what);
+fn warn(rt: &impl Eprint, what: impl Display + Drop) {
+    let _ = rt.eprintln(what);
 }
 
-fn main() {
-    let words = os::arg_count();
-    if words < 2 {
-        show(libc::STDIN_FILENO, b"standard input");
-        return;
-    }
-    if 2 < words {
-        warn(b"show takes one file: the first is shown, the others are not\n");
-    }
-    show_named();
+// Says on standard error what failed and why; answers the status of a program that failed.
+fn fail(rt: &impl Eprint, what: &str, why: io::Error) -> ExitCode {
+    warn(rt, format_args!("{what}: {why}"));
+    ExitCode::FAILURE
+}
+
+fn main(rt: HostRuntime) -> ExitCode {
+    let mut words = match env::args(&rt) {
+        Ok(words) => words,
+        Err(why) => return fail(&rt, "the name of the file", why),
+    };
+    let _program = words.next();
+    let Some(path) = words.next() else {
+        return show(&rt, &mut rt.stdin(), "standard input");
+    };
+    show_named(&rt, path.as_str(), words.len())
 }
