@@ -91,7 +91,7 @@ fn show_file(rt: &(impl Files + Print + Eprint), path: &str) -> ExitCode {
     }
 }
 
-// Shows the file that the first argument names, of which `more` are those after it.
+// Shows the file that the first argument names. Warns where `more` arguments follow it: they are not shown.
 fn show_named(rt: &(impl Files + Print + Eprint), path: &str, more: usize) -> ExitCode {
     if 0 < more {
         warn(
