@@ -3,6 +3,11 @@ use lines::scan::find_byte;
 use std::io;
 use std::io::Write;
 
+// Prints bytes; tells if all of them could be written.
+pub fn try_print(out: &mut impl Write, s: &[u8]) -> bool {
+    out.write_all(s).is_ok()
+}
+
 // Prints bytes.
 pub fn print(out: &mut impl Write, s: &[u8]) -> io::Result<()> {
     out.write_all(s)

@@ -5,6 +5,7 @@
 use fields::fields_of;
 use lines::numbers::field;
 use lines::scan::find_byte;
+use std::io::Read;
 use std::process::ExitCode;
 use std::rt::Files;
 use std::{fs, io};
@@ -14,9 +15,11 @@ mod looking;
 mod reading;
 mod splitting;
 
-ghost use Rattle.std.specs.Prelude.{◌+◌, ◌^◌, ◌<◌, ◌≤◌};
+ghost use Rattle.std.specs.Prelude.{◌+◌, ◌^◌, ◌<◌, ◌≤◌, length, IfOk};
 
-// Fields of a line.
+// Bytes of a list, and fields of a line.
+const LIST: usize = 131072;
+
 const FIELDS: usize = 2048;
 
 // The letters that a case begins with.
@@ -108,10 +111,34 @@ fn fail(rt: &impl Eprint, what: &str, why: io::Error) -> bool {
     false
 }
 
+// Reads what there is, as much of it as there are places for; answers how many bytes these are.
+fn read_full(file: &mut impl Read, list: &mut [u8]) -> io::Result<usize>
+    ensures { IfOk result (λ n. n ≤ length list.new) }
+{
+    let mut at = 0;
+    while at < list.len() {
+        let n = file.read(&mut list[at..])?;
+        if n == 0 {
+            return Ok(at);
+        }
+        at += n;
+    }
+    Ok(at)
+}
+
+// Reads a list by its name.
+fn read_list(rt: &impl Files, name: &str, list: &mut [u8]) -> io::Result<usize>
+    ensures { IfOk result (λ n. n ≤ length list.new) }
+{
+    let mut file = fs::open(rt, name)?;
+    read_full(&mut file, list)
+}
+
 // Replays a list by its name; tells if it could be read, and what came of it printed.
-fn replay(rt: &(impl Files + Print + Eprint + Alloc), name: &str) -> bool {
-    match fs::read(rt, name) {
-        Ok(list) => match report(rt, name, replayed(&list)) {
+fn replay(rt: &(impl Files + Print + Eprint), name: &str) -> bool {
+    let mut list = [0u8; LIST];
+    match read_list(rt, name, &mut list) {
+        Ok(n) => match report(rt, name, replayed(&list[0..n])) {
             Ok(()) => true,
             Err(why) => fail(rt, "standard output", why),
         },
