@@ -1,7 +1,7 @@
 // A case: an expression that is parsed, or a predicate that is split.
 ghost use Rattle.std.specs.Prelude.{◌≤◌, length};
 
-use drawing::listing::print_predicate;
+use drawing::clauses::print_predicate;
 use drawing::names::print_refusal;
 use drawing::out::{print, print_blanks_for, print_count, print_line_number, print_quoted};
 use drawing::tree::{Family, draw};

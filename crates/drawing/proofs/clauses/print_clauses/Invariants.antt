@@ -1,6 +1,6 @@
 -- The loop counts the clauses, and those that are left fall.
 use Rattle.std.proofs.Common.{◌-◌, ◌≤◌}
-use Rattle.drawing.proofs.listing.print_clauses.Given as goal
+use Rattle.drawing.proofs.clauses.print_clauses.Given as goal
 
 abbrev pub invariant-loop-k : goal.invariant-loop-k
 invariant-loop-k g l = l.k ≤ l.count
