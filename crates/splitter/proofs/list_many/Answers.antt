@@ -47,8 +47,6 @@ write_counted-requires c =
     let count-clauses = c.count_clauses-size in
     let u32-to-usize = c.u32_to_usize-n in
     let u32-to-usize2 = c.u32_to_usize-t in
-    let if1 = c.if-literals-t in
-    let if2 = c.if-ends-n in
     let z = sizes (clauses false (tree_at args.rows.now args.r)) args.literals.now args.ends.now count-clauses.ensures
     c.in-Is.is in (
       pre.0,
@@ -56,7 +54,7 @@ write_counted-requires c =
       omega (arith, z.0, u32-to-usize.ensures),
       omega (arith, z.1, u32-to-usize2.ensures),
       (omega (arith, z.0, z.2, u32-to-usize.ensures), omega (arith, z.1, z.3, u32-to-usize2.ensures)),
-      (if1.false, if2.false),
+      (omega arith, omega arith),
     )
 
 pub returns : goal.returns
