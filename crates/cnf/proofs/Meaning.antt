@@ -118,7 +118,8 @@ module _ (ρ : ℕ → Value) where
   any_append (x ∷ a) b =
       ap (OR (negate_if (is_negated (literal_number x)) (ρ (literal_row (literal_number x))))) (any_append a b)
       ∙ sym
-      (OR_assoc (negate_if (is_negated (literal_number x)) (ρ (literal_row (literal_number x)))) (any_of ρ (map literal_number a)) (any_of ρ (map literal_number b)))
+      (OR_assoc (negate_if (is_negated (literal_number x)) (ρ (literal_row (literal_number x)))) (any_of ρ (map literal_number a))
+      (any_of ρ (map literal_number b)))
 
   all_append : (xs ys : List (List Literal)) → all_of ρ (numbered (xs ++ ys)) ≡ AND (all_of ρ (numbered xs)) (all_of ρ (numbered ys))
   unfolding all_of
@@ -228,7 +229,8 @@ read_on front rest (c ∷ cs) =
     here =
         let n : length front + length c - length front ≡ length (map literal_number c) = omega (arith, length-map c literal_number) in
         ap₂ take n
-        (drop_at front ((map literal_number c ++ literal_numbers cs) ++ rest) (length front) refl ∙ append_assoc (map literal_number c) (literal_numbers cs) rest)
+        (drop_at front ((map literal_number c ++ literal_numbers cs) ++ rest) (length front) refl
+        ∙ append_assoc (map literal_number c) (literal_numbers cs) rest)
         ∙ take_at (map literal_number c) (literal_numbers cs ++ rest) (length (map literal_number c)) refl
 
 pub read_back_lem : (rest : List ℕ) (cs : List (List Literal)) → read_back (literal_numbers cs ++ rest) 0 (ends_from 0 cs) ≡ numbered cs

@@ -119,8 +119,10 @@ module _ (c l d m : ℕ) (hc : 0 < c) (hd : 0 < d) where
           → join_sizes o (pick p (pick q (Is c l) TooMany) TooMany) (pick r (pick s (Is d m) TooMany) TooMany)
           ≡ within_limits (clauses_of o c d) (literals_of o c l d m)
       go false q r s ep eq er es = sym (many_clauses (clauses_of o c d) (literals_of o c l d m) (omega (arith, left_clauses o, leb-false c clauses_max ep)))
-      go true false r s ep eq er es = sym (many_literals (clauses_of o c d) (literals_of o c l d m) (omega (arith, left_literals o, leb-false l literals_max eq)))
-      go true true false s ep eq er es = sym (many_clauses (clauses_of o c d) (literals_of o c l d m) (omega (arith, right_clauses o, leb-false d clauses_max er)))
+      go true false r s ep eq er es =
+          sym (many_literals (clauses_of o c d) (literals_of o c l d m) (omega (arith, left_literals o, leb-false l literals_max eq)))
+      go true true false s ep eq er es =
+          sym (many_clauses (clauses_of o c d) (literals_of o c l d m) (omega (arith, right_clauses o, leb-false d clauses_max er)))
       go true true true false ep eq er es =
           sym (many_literals (clauses_of o c d) (literals_of o c l d m) (omega (arith, right_literals o, leb-false m literals_max es)))
       go true true true true ep eq er es = last o

@@ -67,11 +67,13 @@ lift l r x g k (Joined a c h o) b e p = (omega (arith, p.0), omega (arith, p.1),
 
 -- an atom's one literal
 atom_clauses : (l : List ℕ) (r : ℕ) (g : Bool) (s : Shape) (w : Row) → tree_at l r ≡ node_of s r w (map (tree_at l) (operands_of (arity_of s)))
-    → clauses g (node_of s r w (map (tree_at l) (operands_of (arity_of s)))) ≡ (literal g (node_of s r w (map (tree_at l) (operands_of (arity_of s)))) ∷ []) ∷ []
+    → clauses g (node_of s r w (map (tree_at l) (operands_of (arity_of s))))
+    ≡ (literal g (node_of s r w (map (tree_at l) (operands_of (arity_of s)))) ∷ []) ∷ []
     → clauses g (tree_at l r) ≡ (literal g (tree_at l r) ∷ []) ∷ []
 atom_clauses l r g s w t e = ap (clauses g) t ∙ e ∙ ap (λ (a : Tree). (literal g a ∷ []) ∷ []) (sym t)
 
-shape_is : (l : List ℕ) (r : ℕ) (g : Bool) (s : Shape) (w : Row) → Falls (arity_of s) r → tree_at l r ≡ node_of s r w (map (tree_at l) (operands_of (arity_of s)))
+shape_is : (l : List ℕ) (r : ℕ) (g : Bool) (s : Shape) (w : Row) → Falls (arity_of s) r
+    → tree_at l r ≡ node_of s r w (map (tree_at l) (operands_of (arity_of s)))
     → (follow : ℕ → Bool → Source) → ((x : ℕ) (k : Bool) → x < r → SourceIs l x k (follow x k)) → SourceIs l r g (source_of s r g follow)
 unfolding source_of clauses node_of arity_of operands_of
 shape_is l r g shape.Leaf w b t follow i = (omega arith, atom_clauses l r g shape.Leaf w t refl)

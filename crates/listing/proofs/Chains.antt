@@ -42,7 +42,8 @@ chain_step u (suc h) s p =
     ap (λ (c : List ℕ). get_or u (2 * suc h) 0 ∷ c)
     (same_long u h (get_or u (2 * suc h + 1) 0) (get_or u (2 * suc h + 1) 0) (λ k a b. s k a (omega arith)) (omega arith) (omega arith))
 
-unchanged_to : (u v : List ℕ) (n f h : ℕ) → CellsMade u n → ((i : ℕ) → 0 < i → i < 2 * n → get_or v i 0 ≡ get_or u i 0) → h < n → chain_to v f h ≡ chain_to u f h
+unchanged_to : (u v : List ℕ) (n f h : ℕ) → CellsMade u n → ((i : ℕ) → 0 < i → i < 2 * n → get_or v i 0 ≡ get_or u i 0) → h < n
+    → chain_to v f h ≡ chain_to u f h
 unfolding chain_to
 unchanged_to u v n zero h c s p = refl
 unchanged_to u v n (suc f) zero c s p = refl
@@ -51,7 +52,8 @@ unchanged_to u v n (suc f) (suc h) c s p =
     ap₂ (λ (x : ℕ) (l : List ℕ). x ∷ l) (s (2 * suc h) (omega arith) (omega arith))
     (ap (chain_to v f) (s (2 * suc h + 1) (omega arith) (omega arith)) ∙ unchanged_to u v n f (get_or u (2 * suc h + 1) 0) c s (omega arith))
 
-pub chain_unchanged : (u v : List ℕ) (n h : ℕ) → CellsMade u n → ((i : ℕ) → 0 < i → i < 2 * n → get_or v i 0 ≡ get_or u i 0) → h < n → chain_of v h ≡ chain_of u h
+pub chain_unchanged : (u v : List ℕ) (n h : ℕ) → CellsMade u n → ((i : ℕ) → 0 < i → i < 2 * n → get_or v i 0 ≡ get_or u i 0) → h < n
+    → chain_of v h ≡ chain_of u h
 unfolding chain_of
 chain_unchanged u v n h c s p = unchanged_to u v n h h c s p
 

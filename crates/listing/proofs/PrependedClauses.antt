@@ -19,7 +19,8 @@ use Rattle.listing.proofs.Chains.{chain_step, chain_unchanged, prepended_cells}
 
 -- ---- an atom
 
-pub atom_prepended : (x : Literal) {cs : List (List Literal)} {n' : ℕ} {u v d e : List ℕ} {spare first each n m : ℕ} → cs ≡ (x ∷ []) ∷ [] → n' ≡ literal_number x
+pub atom_prepended : (x : Literal) {cs : List (List Literal)} {n' : ℕ} {u v d e : List ℕ} {spare first each n m : ℕ}
+    → cs ≡ (x ∷ []) ∷ [] → n' ≡ literal_number x
     → Prepended n' u v d e first each n m → RoomToPrepend u d spare first each n cs
     → ClausesPrepended cs u v d e spare first each n (record { free = m; first = first })
 atom_prepended x {cs} {n'} {u} {v} {d} {e} {spare} {first} {each} {n} {m} c ex p f' =

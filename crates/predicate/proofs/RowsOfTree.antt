@@ -89,7 +89,8 @@ module _ (text l : List ℕ) where
   spelled_under (suc n) r h s g =
       ap rows_of (tree_step s)
       ∙ node
-      (and_true (allowed_of text (class_of (row_at l r).kind) (row_at l r).x (row_at l r).y) (operands_precede l r (arity_of (shape_at l r))) (g r (omega arith)))
+      (and_true (allowed_of text (class_of (row_at l r).kind) (row_at l r).x (row_at l r).y) (operands_precede l r (arity_of (shape_at l r)))
+      (g r (omega arith)))
       (λ q k. spelled_under n q (omega arith) (sound_below q s (omega arith)) (λ p i. g p (omega arith)))
     where
       node : (allowed_of text (class_of (row_at l r).kind) (row_at l r).x (row_at l r).y ≡ true) × (operands_precede l r (arity_of (shape_at l r)) ≡ true)

@@ -6,11 +6,12 @@ use cases::{print_wrong, show_case};
 use drawing::out::print;
 use lines::input::{Unread, read_line};
 use lines::scan::{byte_or_zero, word_start};
+use std::env::FillError;
 use std::fmt::Display;
 use std::io::{Read, Write};
 use std::process::ExitCode;
-use std::rt::Files;
-use std::{env, fs, io};
+use std::rt::{Env, Files};
+use std::{fs, io};
 
 mod cases;
 
@@ -91,15 +92,30 @@ fn show_file(rt: &(impl Files + Print + Eprint), path: &str) -> ExitCode {
     }
 }
 
-// Shows the file that the first argument names. Warns where `more` arguments follow it: they are not shown.
-fn show_named(rt: &(impl Files + Print + Eprint), path: &str, more: usize) -> ExitCode {
-    if 0 < more {
-        warn(
-            rt,
-            "show takes one file: the first is shown, the others are not",
-        );
+// Shows the file of this name, if it is text.
+fn show_path(rt: &(impl Files + Print + Eprint), path: &[u8]) -> ExitCode {
+    match str::from_utf8(path) {
+        Ok(path) => show_file(rt, path),
+        Err(why) => fail(rt, "the name of the file", why),
     }
-    show_file(rt, path)
+}
+
+// Shows the file that the first argument names.
+fn show_named(rt: &(impl Env + Files + Print + Eprint)) -> ExitCode {
+    let mut path = [0u8; 4096];
+    match rt.arg(1, &mut path) {
+        Ok(n) => show_path(rt, &path[0..n]),
+        Err(_) => fail(rt, "the name of the file", "File name too long"),
+    }
+}
+
+// Tells if there is an argument i. Its bytes are not looked at.
+fn has_word(rt: &impl Env, i: usize) -> bool {
+    let mut none = [0u8; 0];
+    match rt.arg(i, &mut none) {
+        Err(FillError::NotPresent) => false,
+        _ => true,
+    }
 }
 
 // Writes a message to standard error.
@@ -108,19 +124,20 @@ fn warn(rt: &impl Eprint, what: impl Display + Drop) {
 }
 
 // Says on standard error what failed and why; answers the status of a program that failed.
-fn fail(rt: &impl Eprint, what: &str, why: io::Error) -> ExitCode {
+fn fail(rt: &impl Eprint, what: &str, why: impl Display + Drop) -> ExitCode {
     warn(rt, format_args!("{what}: {why}"));
     ExitCode::FAILURE
 }
 
 fn main(rt: HostRuntime) -> ExitCode {
-    let mut words = match env::args(&rt) {
-        Ok(words) => words,
-        Err(why) => return fail(&rt, "the name of the file", why),
-    };
-    let _program = words.next();
-    let Some(path) = words.next() else {
+    if !has_word(&rt, 1) {
         return show(&rt, &mut rt.stdin(), "standard input");
-    };
-    show_named(&rt, path.as_str(), words.len())
+    }
+    if has_word(&rt, 2) {
+        warn(
+            &rt,
+            "show takes one file: the first is shown, the others are not",
+        );
+    }
+    show_named(&rt)
 }

@@ -135,7 +135,9 @@ listed_is : (cs : List (List Literal)) (a d : List ℕ) {c m : ℕ} → Clauses 
 listed_is cs a d {c} {m} e = go (many cs a d) (short cs a d) (by_tests cs a d (many cs a d) (short cs a d) refl refl)
   where
     go : (p q : Bool) → list_of cs a d ≡ listed_by cs a d p q
-        → (c ≡ length cs) × ((list_of cs a d).literals ≡ literal_numbers cs ++ drop (total cs) a) × ((list_of cs a d).ends ≡ ends_from 0 cs ++ drop (length cs) d)
+        → (c ≡ length cs)
+        × ((list_of cs a d).literals ≡ literal_numbers cs ++ drop (total cs) a)
+        × ((list_of cs a d).ends ≡ ends_from 0 cs ++ drop (length cs) d)
     go true q f = let g : Clauses c m ≡ Refused TooMany 0 = e ∙ ap (λ (s : Split). s.answer) f in let z : ◌≡◌ {A = ℕ} 0 1 = cc in absurd (omega arith)
     go false true f = let g : Clauses c m ≡ Refused NoList 0 = e ∙ ap (λ (s : Split). s.answer) f in let z : ◌≡◌ {A = ℕ} 0 1 = cc in absurd (omega arith)
     go false false f =

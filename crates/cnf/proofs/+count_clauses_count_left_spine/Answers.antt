@@ -7,7 +7,6 @@ use Rattle.predicate.proofs.Trees.{sound_below}
 use Rattle.cnf.proofs.Sizes.{limited_size}
 use Rattle.cnf.proofs.Sources.{source_is}
 use Rattle.cnf.proofs.Counting.{size_of_atom, size_of_joined, sized_tree}
-use native.Mathlib.Omega.{arith}
 use Rattle.cnf.proofs.Counting.{size_of_atom, same_way, spine_begins, spine_done, spine_turns}
 use Rattle.cnf.proofs.+count_clauses_count_left_spine.Goals as goal
 

@@ -4,7 +4,6 @@
 -- The measures of the cycle: twice the row, and one more for `count_left_spine`, which calls `count_clauses` at the same row.
 use Rattle.std.proofs.Common.{◌+◌, ◌*◌}
 use Rattle.cnf.proofs.Counting.{LeftSpine}
-use Prim.Native.Nat.{◌+◌, ◌*◌}
 use Rattle.cnf.proofs.+count_clauses_count_left_spine.Given as goal
 
 abbrev pub invariant-count_left_spine-loop-left : goal.invariant-count_left_spine-loop-left

@@ -1,8 +1,7 @@
 -- `join_sizes` meets its contract. No product wraps, since neither list is of more than the maxima.
 use Rattle.std.proofs.Common.{sym, ap, ◌∙◌, arith}
-use mathlib.Core.Path.{ap, ap₂, sym, ◌∙◌}
+use mathlib.Core.Path.{ap₂}
 use mathlib.Core.Bool.{true, false}
-use native.Mathlib.Omega.{arith}
 use native.Mathlib.Nat.{mul-le-mul}
 use Rattle.cnf.specs.Size.{join_sizes}
 use Rattle.cnf.proofs.Sizes.{limited_is}

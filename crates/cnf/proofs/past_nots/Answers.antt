@@ -1,7 +1,5 @@
 -- `past_nots` meets its contract. The invariant: row r in its reading has the source that the first row had. The measure is r.
 use Rattle.std.proofs.Common.{refl, sym, ◌∙◌, arith}
-use mathlib.Core.Path.{refl, sym, ◌∙◌}
-use native.Mathlib.Omega.{arith}
 use Rattle.predicate.proofs.Trees.{sound_below}
 use Rattle.predicate.proofs.Shapes.{falls_not}
 use Rattle.cnf.specs.Source.{source_of}

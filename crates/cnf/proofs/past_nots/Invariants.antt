@@ -1,6 +1,5 @@
 -- `past_nots` meets its contract. The invariant: row r in its reading has the source that the first row had. The measure is r.
 use Rattle.std.proofs.Common.{◌≡◌}
-use mathlib.Core.Path.{◌≡◌}
 use Rattle.predicate.specs.Tree.{Sound}
 use Rattle.cnf.specs.Source.{source_at}
 use Rattle.cnf.proofs.past_nots.Given as goal

@@ -3,9 +3,6 @@
 use Rattle.std.proofs.Common.{◌-◌, ◌∙◌, arith}
 use Prim.Native.Nat.{◌/◌}
 use Rattle.listing.proofs.Chains.{copied_none, copied_one, safe_second, safe_first, copied_halves}
-use native.Mathlib.Omega.{arith}
-use mathlib.Core.Path.{◌∙◌}
-use Prim.Native.Nat.{◌-◌}
 use Rattle.listing.proofs.+copy_heads.Goals as goal
 
 pub returns-then-each-eq0 : goal.returns-then-each-eq0

@@ -3,8 +3,6 @@
 use Rattle.std.proofs.Common.{◌∙◌, arith}
 use Rattle.listing.proofs.PrependLoop.{prepends_all, atom_low, atom_asks, atom_done, save_asks, right_asks, restore_asks}
 use Rattle.listing.proofs.PrependLoop.{left_falls, goes_left}
-use native.Mathlib.Omega.{arith}
-use mathlib.Core.Path.{◌∙◌}
 use Rattle.listing.proofs.+prepend_clauses.Goals as goal
 
 pub loop-q-init : goal.loop-q-init

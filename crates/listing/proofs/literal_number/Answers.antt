@@ -1,9 +1,6 @@
 -- `literal_number` meets its contract: the bit is that of the test.
 use Rattle.std.proofs.Common.{◌≡◌, ◌+◌, ◌*◌, sym, ap, ◌∙◌, arith}
-use Prim.Native.Nat.{◌+◌, ◌*◌}
-use mathlib.Core.Path.{◌≡◌, ap, sym, ◌∙◌}
 use mathlib.Core.Bool.{Bool}
-use native.Mathlib.Omega.{arith}
 use Rattle.cnf.specs.Clause.{bit}
 use Rattle.listing.proofs.literal_number.Goals as goal
 

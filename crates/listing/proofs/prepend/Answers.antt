@@ -1,8 +1,6 @@
 -- `prepend` meets its contract. The invariant: x was put before the first k chains. The measure is the chains left.
 use Rattle.std.proofs.Common.{ℕ, refl, sym, ◌∙◌, arith}
-use Prim.Native.Nat.{ℕ}
-use mathlib.Core.Path.{refl, sym, subst, ◌∙◌}
-use native.Mathlib.Omega.{arith}
+use mathlib.Core.Path.{subst}
 use lib.ListN.{length-set}
 use Rattle.listing.specs.Chain.{free_of}
 use Rattle.listing.specs.Heads.{Prepended}

@@ -1,6 +1,5 @@
 -- `prepend` meets its contract. The invariant: x was put before the first k chains. The measure is the chains left.
 use Rattle.std.proofs.Common.{◌-◌, ◌≤◌}
-use Prim.Native.Nat.{◌-◌, ◌≤◌}
 use Rattle.listing.specs.Chain.{free_of}
 use Rattle.listing.specs.Heads.{Prepended}
 use Rattle.listing.proofs.prepend.Given as goal

@@ -1,6 +1,5 @@
 -- `restore_heads` meets its contract, case by case.
 use Rattle.std.proofs.Common.{arith}
-use native.Mathlib.Omega.{arith}
 use Rattle.listing.proofs.SavedHeads.{restore_all_asks, restored_all, restore_asks, restored_saved}
 use Rattle.listing.proofs.restore_heads.Goals as goal
 

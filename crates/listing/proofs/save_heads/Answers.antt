@@ -1,6 +1,5 @@
 -- `save_heads` meets its contract, case by case.
 use Rattle.std.proofs.Common.{arith}
-use native.Mathlib.Omega.{arith}
 use Rattle.listing.proofs.SavedHeads.{saved_none, save_asks, saved_some}
 use Rattle.listing.proofs.save_heads.Goals as goal
 

@@ -1,8 +1,5 @@
 -- `write_chain` meets its contract. The invariant: the chain from cell h on is left to be written. The measure is h, since each cell comes after its next.
 use Rattle.std.proofs.Common.{◌*◌, ◌∙◌, arith}
-use mathlib.Core.Path.{◌∙◌}
-use Prim.Native.Nat.{◌*◌}
-use native.Mathlib.Omega.{arith}
 use Rattle.listing.proofs.WrittenClauses.{chain_left, chain_room, chain_goes, chain_written}
 use Rattle.listing.proofs.write_chain.Goals as goal
 

@@ -1,10 +1,7 @@
 -- `write_clauses` meets its contract. The invariant: the first k clauses are written, the ends over the heads of their chains. The measure is the
 -- clauses left.
 use Rattle.std.proofs.Common.{◌-◌, ◌∙◌, arith}
-use Prim.Native.Nat.{◌-◌}
-use mathlib.Core.Path.{◌∙◌}
 use mathlib.Core.Bool.{false}
-use native.Mathlib.Omega.{arith}
 use Rattle.predicate.specs.Tree.{tree_at}
 use Rattle.cnf.proofs.Sizes.{clauses_some}
 use Rattle.listing.proofs.WrittenClauses.{none_written, long_literals, long_ends, room_to_prepend, chains_ready}

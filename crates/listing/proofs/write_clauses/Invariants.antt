@@ -1,7 +1,6 @@
 -- `write_clauses` meets its contract. The invariant: the first k clauses are written, the ends over the heads of their chains. The measure is the
 -- clauses left.
 use Rattle.std.proofs.Common.{ℕ, ◌-◌, ◌≤◌}
-use Prim.Native.Nat.{ℕ, ◌-◌, ◌≤◌}
 use mathlib.Core.Bool.{false}
 use mathlib.Core.List.{List}
 use Rattle.predicate.specs.Tree.{tree_at}
@@ -14,7 +13,10 @@ abbrev pub clauses_at : List ℕ → ℕ → List (List Literal)
 clauses_at rows r = clauses false (tree_at rows r)
 
 abbrev pub invariant-loop-k : goal.invariant-loop-k
-invariant-loop-k l = (l.k ≤ l.n) × FirstWritten (clauses_at l.rows l.r) l.initial.literals l.literals l.initial.ends l.ends l.at l.k × ChainsReady (clauses_at l.rows l.r) l.cells l.initial.literals l.initial.ends l.n
+invariant-loop-k l =
+    (l.k ≤ l.n)
+    × FirstWritten (clauses_at l.rows l.r) l.initial.literals l.literals l.initial.ends l.ends l.at l.k
+    × ChainsReady (clauses_at l.rows l.r) l.cells l.initial.literals l.initial.ends l.n
 
 abbrev pub decreases-loop-k : goal.decreases-loop-k
 decreases-loop-k l = l.n - l.k

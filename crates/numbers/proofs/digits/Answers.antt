@@ -1,6 +1,5 @@
 -- `numbers::digits` meets its contract. The invariant: what is past the digits from `end` on is what is past those from `from` on, and so is the value.
 use Rattle.std.proofs.Common.{sym, ◌∙◌, rules}
-use mathlib.Core.Path.{sym, ◌∙◌}
 use Rattle.numbers.proofs.Spelling.{digit_in, run_begins, run_on, run_off, run_out}
 use Rattle.numbers.proofs.digits.Goals as goal
 

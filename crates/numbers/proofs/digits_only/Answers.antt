@@ -1,6 +1,5 @@
 -- `numbers::digits_only` meets its contract: the run of digits at the start is all of the spelling, or nothing is said.
 use Rattle.std.proofs.Common.{◌∙◌}
-use mathlib.Core.Path.{◌∙◌}
 use Rattle.numbers.proofs.Spelling.{run_integer, digits_only_unsaid, digits_only_said}
 use Rattle.numbers.proofs.digits_only.Goals as goal
 

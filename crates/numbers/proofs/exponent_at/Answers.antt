@@ -1,6 +1,5 @@
 -- `numbers::exponent_at` meets its contract: by whether there is a byte, and whether it is `e` or `E`.
 use Rattle.std.proofs.Common.{sym, ◌∙◌}
-use mathlib.Core.Path.{sym, ◌∙◌}
 use Rattle.numbers.proofs.Spelling.{exponent_end, exponent_on, exponent_off, is_first, is_second, is_other}
 use Rattle.numbers.proofs.exponent_at.Goals as goal
 

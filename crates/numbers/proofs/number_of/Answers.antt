@@ -1,6 +1,5 @@
 -- `numbers::number_of` meets its contract: the run of digits at the start decides, and what follows it is judged by its parts.
 use Rattle.std.proofs.Common.{sym, ◌∙◌}
-use mathlib.Core.Path.{sym, ◌∙◌}
 use Rattle.numbers.proofs.Spelling.{run_neither, run_integer, run_float, run_bad}
 use Rattle.numbers.proofs.number_of.Goals as goal
 

@@ -1,7 +1,6 @@
 -- `numbers::power` meets its contract: a run of digits that is not empty and goes to the end.
 use Rattle.std.proofs.Common.{sym, ap, ◌∙◌}
 use Rattle.numbers.specs.Number.{digits}
-use mathlib.Core.Path.{sym, ap, ◌∙◌}
 use Rattle.numbers.proofs.Spelling.{run_some, run_none, run_ended, digits_both, digits_none}
 use Rattle.numbers.proofs.power.Goals as goal
 

@@ -1,7 +1,5 @@
 -- `check` meets its contract: the lengths are tested in the order of `read_rows`.
 use Rattle.std.proofs.Common.{sym, ap, ◌∙◌, arith}
-use mathlib.Core.Path.{sym, ap, ◌∙◌}
-use native.Mathlib.Omega.{arith}
 use Rattle.refusals.specs.declared.Refusal.TheVariants.{BadTree}
 use Rattle.predicate.specs.Read.{checked_of}
 use Rattle.predicate.specs.declared.Checked.TheVariants.{Refused}

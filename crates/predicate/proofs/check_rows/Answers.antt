@@ -1,8 +1,5 @@
 -- `check_rows` meets its contract. The invariant: the reading stands before row r. The measure is the rows left.
 use Rattle.std.proofs.Common.{◌-◌, sym, ◌∙◌, arith}
-use mathlib.Core.Path.{sym, ◌∙◌}
-use Prim.Native.Nat.{◌-◌}
-use native.Mathlib.Omega.{arith}
 use Rattle.predicate.proofs.CheckLoop.{begins, below_of, sound_last, goes, stops, no_rows, one_root, several_roots}
 use Rattle.predicate.proofs.check_rows.Goals as goal
 

@@ -1,7 +1,5 @@
 -- `check_rows` meets its contract. The invariant: the reading stands before row r. The measure is the rows left.
 use Rattle.std.proofs.Common.{◌≡◌, ◌-◌}
-use mathlib.Core.Path.{◌≡◌}
-use Prim.Native.Nat.{◌-◌}
 use Rattle.rows.specs.Layout.{row_count}
 use Rattle.predicate.proofs.CheckLoop.{Reads}
 use Rattle.predicate.proofs.check_rows.Given as goal

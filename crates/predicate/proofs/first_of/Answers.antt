@@ -1,7 +1,5 @@
 -- `first_of` meets its contract. The invariant: row q can be followed down, and its tree begins where that of row r does. The measure is q.
 use Rattle.std.proofs.Common.{refl, sym, ◌∙◌, arith}
-use mathlib.Core.Path.{refl, sym, ◌∙◌}
-use native.Mathlib.Omega.{arith}
 use Rattle.predicate.proofs.Trees.{sound_below, first_named, falls_named}
 use Rattle.predicate.proofs.first_of.Goals as goal
 

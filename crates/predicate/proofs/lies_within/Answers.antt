@@ -1,11 +1,7 @@
 -- `lies_within` meets its contract: where the start is in the text, the sum of start and size fits if the size fits the rest.
 use Rattle.std.proofs.Common.{◌+◌, ◌-◌, length, sym, arith}
-use mathlib.Core.Path.{sym}
-use Prim.Native.Nat.{◌+◌, ◌-◌}
-use native.Mathlib.Omega.{arith}
 use borrow.Author.Tests.{lt-leb}
 use Rattle.predicate.proofs.Classes.{same_leb}
-use lib.ListN.{length}
 use Rattle.predicate.proofs.lies_within.Goals as goal
 
 pub returns-then-start-all : goal.returns-then-start-all

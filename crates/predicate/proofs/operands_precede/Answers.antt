@@ -1,7 +1,6 @@
 -- `operands_precede` meets its contract: for each number of operands its tests are those of `operands_precede`; a row number is one less than another
 -- only if it is smaller.
 use Rattle.std.proofs.Common.{arith}
-use native.Mathlib.Omega.{arith}
 use Rattle.predicate.proofs.Stacks.{sound_of}
 use Rattle.predicate.proofs.CheckTests.{precede_nil, precede_one, one_off, right_off, precede_two, left_off}
 use Rattle.predicate.proofs.operands_precede.Goals as goal

@@ -1,6 +1,6 @@
 -- `shape_at` meets its contract: the row that is read has that class and shape.
 use Rattle.std.proofs.Common.{ap, ◌∙◌}
-use mathlib.Core.Path.{ap, ap₂, ◌∙◌}
+use mathlib.Core.Path.{ap₂}
 use Rattle.rows.specs.declared.Row.{Row}
 use Rattle.predicate.specs.Row.{class_of, shape_of, shape_at}
 use Rattle.predicate.proofs.shape_at.Goals as goal

@@ -1,11 +1,8 @@
 -- `rows::clear` meets its contract. The loop's invariant: the numbers passed are 0, and the others as they were.
 use Rattle.std.proofs.Common.{ℕ, ◌≡◌, length, refl, ap, ◌∙◌, arith}
 use borrow.Author.Fill.{fill_more}
-use native.Mathlib.Omega.{arith}
-use mathlib.Core.Path.{◌≡◌, refl, ap, ◌∙◌}
 use mathlib.Core.List.{List, ◌++◌, append-nil}
-use Prim.Native.Nat.{ℕ}
-use lib.ListN.{length, replicate, set, length-set, drop_of_length-le}
+use lib.ListN.{replicate, set, length-set, drop_of_length-le}
 use Rattle.rows.proofs.clear.Goals as goal
 
 pub loop-i-init : goal.loop-i-init

@@ -1,6 +1,5 @@
 -- `rows::write_row` meets its contract: its stores are those of the row's numbers, in order.
 use Rattle.std.proofs.Common.{arith}
-use native.Mathlib.Omega.{arith}
 use native.Mathlib.Numerals.{unary_clauses}
 use lib.ListN.{length-set}
 use Rattle.rows.proofs.write_row.Goals as goal

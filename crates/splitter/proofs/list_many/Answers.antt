@@ -1,7 +1,6 @@
 -- `list_many` meets its contract: the counts are those of the definition's list, so each refusal is given in its case alone.
 use Rattle.std.proofs.Common.{arith}
 use mathlib.Core.Bool.{false}
-use native.Mathlib.Omega.{arith}
 use Rattle.predicate.specs.Tree.{tree_at}
 use Rattle.cnf.specs.Clause.{clauses}
 use Rattle.splitter.proofs.Answers.{sizes, gives_many, gives_short, gives_shorter, gives_all}

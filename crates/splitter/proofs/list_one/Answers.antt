@@ -1,7 +1,5 @@
 -- `list_one` meets its contract: a list that is too short is empty, and one literal is written to the front of each.
 use Rattle.std.proofs.Common.{ℕ, ◌+◌, ◌*◌, sym, ap, ◌∙◌}
-use mathlib.Core.Path.{sym, ap, ◌∙◌}
-use Prim.Native.Nat.{ℕ, ◌+◌, ◌*◌}
 use Rattle.cnf.specs.Clause.{bit}
 use Rattle.splitter.proofs.Answers.{one_short, one_shorter, one_all}
 use Rattle.splitter.proofs.list_one.Goals as goal

@@ -1,7 +1,6 @@
 -- `list_tree` meets its contract: an atom's list is its one literal.
 use Rattle.std.proofs.Common.{arith}
 use mathlib.Core.Bool.{false}
-use native.Mathlib.Omega.{arith}
 use Rattle.predicate.proofs.Trees.{root_at}
 use Rattle.splitter.proofs.Answers.{listed_as}
 use Rattle.cnf.proofs.Sources.{source_is}

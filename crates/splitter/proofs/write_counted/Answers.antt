@@ -1,8 +1,6 @@
 -- `write_counted` meets its contract: either table of cells is long enough for the literals that it is used for.
 use Rattle.std.proofs.Common.{refl, arith}
-use mathlib.Core.Path.{refl}
 use mathlib.Core.Bool.{false}
-use native.Mathlib.Omega.{arith}
 use Rattle.predicate.specs.Tree.{tree_at}
 use Rattle.cnf.specs.Clause.{clauses}
 use Rattle.listing.proofs.WrittenClauses.{room_of}

@@ -1,6 +1,5 @@
 -- `table::check_table` meets its contract: its tests are in the order of `check_table`.
 use Rattle.std.proofs.Common.{sym, ◌∙◌}
-use mathlib.Core.Path.{sym, ◌∙◌}
 use Rattle.tokens.proofs.TokenTable.{long_text, long_table, ragged, in_turn}
 use Rattle.tokens.proofs.table.check_table.Goals as goal
 

@@ -1,6 +1,5 @@
 -- `table::check_tokens` meets its contract. The invariant: from token n on, the check comes to what it comes to from the first.
 use Rattle.std.proofs.Common.{refl, sym, ◌∙◌, rules}
-use mathlib.Core.Path.{refl, sym, ◌∙◌}
 use Rattle.tokens.proofs.TokenTable.{check_begins, check_on, check_off, check_ends}
 use Rattle.tokens.proofs.table.check_tokens.Goals as goal
 

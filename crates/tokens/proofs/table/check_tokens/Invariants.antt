@@ -1,7 +1,5 @@
 -- `table::check_tokens` meets its contract. The invariant: from token n on, the check comes to what it comes to from the first.
 use Rattle.std.proofs.Common.{◌≡◌, ◌-◌}
-use mathlib.Core.Path.{◌≡◌}
-use Prim.Native.Nat.{◌-◌}
 use Rattle.tokens.specs.Token.{token_count}
 use Rattle.tokens.proofs.TokenTable.{Checking}
 use Rattle.tokens.proofs.table.check_tokens.Given as goal

@@ -1,6 +1,5 @@
 -- `table::span_at` meets its contract: by whether the span lies in the text.
 use Rattle.std.proofs.Common.{sym, ◌∙◌}
-use mathlib.Core.Path.{sym, ◌∙◌}
 use Rattle.tokens.proofs.TokenTable.{span_there, span_none}
 use Rattle.tokens.proofs.table.span_at.Goals as goal
 

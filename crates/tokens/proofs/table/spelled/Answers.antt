@@ -1,9 +1,6 @@
 -- `table::spelled` meets its contract: the span lies in the text, so the part does, and starts where the span does.
 use Rattle.std.proofs.Common.{◌+◌, refl, ap, arith}
-use Prim.Native.Nat.{◌+◌}
-use native.Mathlib.Omega.{arith}
 use Rattle.tokens.specs.declared.table.Span.{Span}
-use mathlib.Core.Path.{refl, ap}
 use Rattle.tokens.proofs.TokenTable.{part_there, part_in}
 use Rattle.tokens.proofs.table.spelled.Goals as goal
 

@@ -1,6 +1,5 @@
 -- `table::token_at` meets its contract: by its test, the token is there or is none.
 use Rattle.std.proofs.Common.{sym}
-use mathlib.Core.Path.{sym}
 use Rattle.tokens.proofs.TokenTable.{there, missing}
 use Rattle.tokens.proofs.table.token_at.Goals as goal
 
