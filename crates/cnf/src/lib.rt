@@ -62,6 +62,7 @@ pub fn past_nots(rows: &[u64], start: usize, negated: bool) -> Source
 }
 
 // Answers c clauses with l literals in all, or that these are too many.
+#[tactic(auto, unfolding(crate::specs::Size::within_limits))]
 fn within_limits(c: u32, l: u32) -> Size
     ensures { result ≡ within_limits c l }
 {

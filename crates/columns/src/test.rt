@@ -35,6 +35,7 @@ fn is_constant(leaf: Row) -> bool
 }
 
 // Tells if a row has no operands.
+#[tactic(auto, unfolding(crate::specs::Partial::is_leaf))]
 fn is_leaf(shape: Shape) -> bool
     ensures { result ≡ is_leaf shape }
 {

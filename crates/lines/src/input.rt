@@ -51,7 +51,7 @@ fn store(line: &mut [u8], i: usize, b: u8)
     }
 }
 
-// Reads the next line, as much of it as there are places for. Where a read fails, what was read of the line is left out.
+// Reads the next line, as much of it as there are places for. If a read fails, what was read of the line is left out.
 pub fn read_line(
     reader: &mut impl Read,
     chunk: &mut [u8],

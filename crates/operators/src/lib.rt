@@ -10,6 +10,7 @@ use syntax::kind as row;
 use tokens::kind;
 
 // Answers the precedence of an infix operator, and 0 for any other kind. The compiler makes shorter code of these tests than of a `match`.
+#[tactic(auto, unfolding(crate::specs::Operator::infix_of, crate::specs::Operator::among))]
 pub fn infix_precedence(k: u32) -> u32
     ensures { result ≡ (infix_of k).precedence }
 {
@@ -62,6 +63,7 @@ pub fn right_minimum(k: u32) -> u32
 }
 
 // Answers the kind of an infix operator's row, and 0 for any other kind.
+#[tactic(auto, unfolding(crate::specs::Operator::infix_of, crate::specs::Operator::among))]
 pub fn infix_row(k: u32) -> u64
     ensures { result ≡ (infix_of k).row }
 {
@@ -87,6 +89,7 @@ pub fn infix_row(k: u32) -> u64
 }
 
 // Answers the precedence of a prefix operator, and 0 for any other kind.
+#[tactic(auto, unfolding(crate::specs::Operator::prefix_of, crate::specs::Operator::among))]
 pub fn prefix_precedence(k: u32) -> u32
     ensures { result ≡ (prefix_of k).precedence }
 {
@@ -99,6 +102,7 @@ pub fn prefix_precedence(k: u32) -> u32
 }
 
 // Answers the kind of a prefix operator's row, and 0 for any other kind.
+#[tactic(auto, unfolding(crate::specs::Operator::prefix_of, crate::specs::Operator::among))]
 pub fn prefix_row(k: u32) -> u64
     ensures { result ≡ (prefix_of k).row }
 {
@@ -111,6 +115,7 @@ pub fn prefix_row(k: u32) -> u64
 }
 
 // Answers the precedence of a postfix operator, and 0 for any other kind.
+#[tactic(auto, unfolding(crate::specs::Operator::postfix_of, crate::specs::Operator::among))]
 pub fn postfix_precedence(k: u32) -> u32
     ensures { result ≡ postfix_of k }
 {

@@ -105,7 +105,7 @@ fn report(rt: &impl Print, name: &str, t: Tally) -> io::Result<()> {
     println!(rt)
 }
 
-// Says on standard error what failed and why; answers that it did.
+// Says on standard error what failed and why; answers false.
 fn fail(rt: &impl Eprint, what: &str, why: io::Error) -> bool {
     let _ = eprintln!(rt; "{what}: {why}");
     false

@@ -92,7 +92,7 @@ fn show_file(rt: &(impl Files + Print + Eprint), path: &str) -> ExitCode {
     }
 }
 
-// Shows the file of this name, if it is text.
+// Shows the file of this name, which has to be UTF-8.
 fn show_path(rt: &(impl Files + Print + Eprint), path: &[u8]) -> ExitCode {
     match str::from_utf8(path) {
         Ok(path) => show_file(rt, path),

@@ -16,6 +16,7 @@ use tokens::table::kind_at;
 use tokens::{kind, table};
 
 // Answers what a token of this kind starts.
+#[tactic(auto, unfolding(grammar::specs::Atom::start_of, operators::specs::Operator::among))]
 pub fn start_of(k: u32) -> Start
     ensures { result ≡ start_of k }
 {

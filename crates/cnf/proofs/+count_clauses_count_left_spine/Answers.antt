@@ -1,7 +1,5 @@
 -- `count_clauses` meets its contract: an atom's list has one clause of one literal, and of two rows' lists the right one is counted first, and then
--- the left one's spine.
--- `count_left_spine` meets its contract. The invariant: row r joined with the list counted so far comes to what was asked for. The measure is r.
--- The measures of the cycle: twice the row, and one more for `count_left_spine`, which calls `count_clauses` at the same row.
+-- the left one's spine. `count_left_spine` meets its own by its invariant.
 use Rattle.std.proofs.Common.{arith}
 use Rattle.predicate.proofs.Trees.{sound_below}
 use Rattle.cnf.proofs.Sizes.{limited_size}
@@ -109,6 +107,5 @@ pub count_left_spine-loop-left-preserved : goal.count_left_spine-loop-left-prese
 count_left_spine-loop-left-preserved t c =
     let loop = c.loop-left in
     let past-nots = c.past_nots-source in
-    let if1 = c.if-joined_crosswise-crosswise in
-    spine_turns loop.invariant past-nots.ensures c.in-Joined.is (same_way _ _ if1.false) c.count_clauses-same.ensures
+    spine_turns loop.invariant past-nots.ensures c.in-Joined.is (same_way _ _ c.if-joined_crosswise-crosswise.false) c.count_clauses-same.ensures
     c.join_sizes-size.ensures

@@ -1,7 +1,5 @@
--- `count_clauses` meets its contract: an atom's list has one clause of one literal, and of two rows' lists the right one is counted first, and then
--- the left one's spine.
--- `count_left_spine` meets its contract. The invariant: row r joined with the list counted so far comes to what was asked for. The measure is r.
 -- The measures of the cycle: twice the row, and one more for `count_left_spine`, which calls `count_clauses` at the same row.
+-- In the loop of `count_left_spine` the invariant is that row r joined with the list counted so far comes to what was asked for. The measure is r.
 use Rattle.std.proofs.Common.{◌+◌, ◌*◌}
 use Rattle.cnf.proofs.Counting.{LeftSpine}
 use Rattle.cnf.proofs.+count_clauses_count_left_spine.Given as goal

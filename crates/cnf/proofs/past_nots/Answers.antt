@@ -1,4 +1,4 @@
--- `past_nots` meets its contract. The invariant: row r in its reading has the source that the first row had. The measure is r.
+-- `past_nots` meets its contract: a NOT is one row down in the other reading, and any other row is a source itself.
 use Rattle.std.proofs.Common.{refl, sym, ◌∙◌, arith}
 use Rattle.predicate.proofs.Trees.{sound_below}
 use Rattle.predicate.proofs.Shapes.{falls_not}

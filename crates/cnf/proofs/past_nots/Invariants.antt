@@ -1,4 +1,4 @@
--- `past_nots` meets its contract. The invariant: row r in its reading has the source that the first row had. The measure is r.
+-- The invariant of `past_nots`: row r in its reading has the source that the first row had. The measure is r.
 use Rattle.std.proofs.Common.{◌≡◌}
 use Rattle.predicate.specs.Tree.{Sound}
 use Rattle.cnf.specs.Source.{source_at}

@@ -1,5 +1,4 @@
--- The needs of `copy_heads`.
--- The measures of the cycle.
+-- `copy_heads` meets its contract: none, one, or the second half and then the first.
 use Rattle.std.proofs.Common.{◌-◌, ◌∙◌, arith}
 use Prim.Native.Nat.{◌/◌}
 use Rattle.listing.proofs.Chains.{copied_none, copied_one, safe_second, safe_first, copied_halves}
@@ -33,8 +32,7 @@ bounds-heads-to t c =
 pub returns-then-each-eq1 : goal.returns-then-each-eq1
 returns-then-each-eq1 t c =
     let pre = c.requires in
-    let if2 = c.if-each-eq1 in
-    copied_one _ _ _ if2.true (omega (arith, if2.true, pre.2))
+    copied_one _ _ _ c.if-each-eq1.true (omega (arith, c.if-each-eq1.true, pre.2))
 
 pub overflow_add-from : goal.overflow_add-from
 overflow_add-from t c =
@@ -51,9 +49,8 @@ overflow_add-to t c =
 pub copy_heads-requires : goal.copy_heads-requires
 copy_heads-requires t c =
     let args = c.args in
-    let pre = c.requires in
-    let if1 = c.if-each-eq0 in (
-      omega (arith, c.decreases, if1.false, c.if-each-eq1.false),
+    let pre = c.requires in (
+      omega (arith, c.decreases, c.if-each-eq0.false, c.if-each-eq1.false),
       (
         safe_second pre.0 (args.each / 2) (args.each - args.each / 2) (omega arith),
         omega (arith, pre.1),
@@ -64,28 +61,21 @@ copy_heads-requires t c =
 pub copy_heads-requires-2 : goal.copy_heads-requires-2
 copy_heads-requires-2 t c =
     let args = c.args in
-    let pre = c.requires in
-    let if1 = c.if-each-eq0 in
-    let if2 = c.if-each-eq1 in
-    let the-copy-heads = c.copy_heads in (
-      omega (arith, c.decreases, if1.false, if2.false),
+    let pre = c.requires in (
+      omega (arith, c.decreases, c.if-each-eq0.false, c.if-each-eq1.false),
       (
         safe_first pre.0 (args.each / 2) (args.each - args.each / 2) (omega arith),
-        omega (arith, pre.1, the-copy-heads.ensures.long),
-        omega (arith, pre.2, the-copy-heads.ensures.long),
+        omega (arith, pre.1, c.copy_heads.ensures.long),
+        omega (arith, pre.2, c.copy_heads.ensures.long),
       ),
     )
 
 pub shape_of-heads : goal.shape_of-heads
 shape_of-heads t c =
-    let the-copy-heads = c.copy_heads in
-    let copy-heads2 = c.copy_heads-2 in
-    copy-heads2.ensures.long ∙ the-copy-heads.ensures.long
+    c.copy_heads-2.ensures.long ∙ c.copy_heads.ensures.long
 
 pub returns : goal.returns
 returns t c =
     let args = c.args in
     let pre = c.requires in
-    let the-copy-heads = c.copy_heads in
-    let copy-heads2 = c.copy_heads-2 in
-    copied_halves pre.0 (args.each / 2) (args.each - args.each / 2) (omega arith) the-copy-heads.ensures copy-heads2.ensures
+    copied_halves pre.0 (args.each / 2) (args.each - args.each / 2) (omega arith) c.copy_heads.ensures c.copy_heads-2.ensures

@@ -1,5 +1,4 @@
--- The measures of the cycle.
--- The needs of `prepend_clauses`.
+-- `prepend_clauses` meets its contract: an atom is put before all chains, and of two rows the right one's clauses by a call, the left one's in the next turn.
 use Rattle.std.proofs.Common.{◌∙◌, arith}
 use Rattle.listing.proofs.PrependLoop.{prepends_all, atom_low, atom_asks, atom_done, save_asks, right_asks, restore_asks}
 use Rattle.listing.proofs.PrependLoop.{left_falls, goes_left}
@@ -71,9 +70,8 @@ restore_heads-run-requires t c =
     let loop = c.loop-q in
     let past-nots = c.past_nots-source in
     let save-heads = c.save_heads-free in
-    let the-prepend-clauses = c.prepend_clauses-right in
     restore_asks loop.r_negated pre.1 loop.invariant past-nots.ensures c.in-Joined.is save-heads.ensures
-    the-prepend-clauses.ensures
+    c.prepend_clauses-right.ensures
 
 pub loop-q-smaller : goal.loop-q-smaller
 loop-q-smaller t c =
@@ -88,7 +86,6 @@ loop-q-preserved t c =
     let loop = c.loop-q in
     let past-nots = c.past_nots-source in
     let save-heads = c.save_heads-free in
-    let the-prepend-clauses = c.prepend_clauses-right in
     let restore-heads = c.restore_heads-run in
     goes_left loop.r_negated pre.1 loop.invariant past-nots.ensures c.in-Joined.is save-heads.ensures
-    the-prepend-clauses.ensures restore-heads.ensures save-heads.auto.heads restore-heads.auto.heads
+    c.prepend_clauses-right.ensures restore-heads.ensures save-heads.auto.heads restore-heads.auto.heads

@@ -1,4 +1,5 @@
--- The measure and the invariant of `prepend_clauses`.
+-- The measure of `prepend_clauses` is the row, from call to call and from turn to turn. The invariant: what is left is to put row r's clauses before
+-- the heads that stand now.
 use Rattle.listing.specs.Chain.{free_of}
 use Rattle.listing.proofs.PrependLoop.{PrependsLeft}
 use Rattle.listing.proofs.+prepend_clauses.Given as goal

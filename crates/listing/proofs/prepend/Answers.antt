@@ -1,4 +1,4 @@
--- `prepend` meets its contract. The invariant: x was put before the first k chains. The measure is the chains left.
+-- `prepend` meets its contract: each turn makes a cell before the next chain.
 use Rattle.std.proofs.Common.{ℕ, refl, sym, ◌∙◌, arith}
 use mathlib.Core.Path.{subst}
 use lib.ListN.{length-set}

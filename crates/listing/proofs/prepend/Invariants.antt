@@ -1,4 +1,4 @@
--- `prepend` meets its contract. The invariant: x was put before the first k chains. The measure is the chains left.
+-- The invariant of `prepend`: x was put before the first k chains. The measure is the chains left.
 use Rattle.std.proofs.Common.{◌-◌, ◌≤◌}
 use Rattle.listing.specs.Chain.{free_of}
 use Rattle.listing.specs.Heads.{Prepended}

@@ -39,6 +39,5 @@ copy_heads-requires c =
 pub returns : goal.returns
 returns c =
     let args = c.args in
-    let if1 = c.if-crosswise in
     let copy-heads = c.copy_heads in
-    restored_saved args.heads.now args.first args.spare args.each args.right if1.false copy-heads.ensures
+    restored_saved args.heads.now args.first args.spare args.each args.right c.if-crosswise.false copy-heads.ensures

@@ -19,12 +19,10 @@ overflow_add-result c =
     let args = c.args in
     let pre = c.requires in
     let good = c.well_formed in
-    let if1 = c.if-crosswise in
-    let z = save_asks args.heads.now args.first args.spare args.each if1.false pre in omega (arith, z.2, good.0.0)
+    let z = save_asks args.heads.now args.first args.spare args.each c.if-crosswise.false pre in omega (arith, z.2, good.0.0)
 
 pub returns : goal.returns
 returns c =
     let args = c.args in
-    let if1 = c.if-crosswise in
     let copy-heads = c.copy_heads in
-    saved_some args.heads.now args.first args.spare args.each if1.false copy-heads.ensures
+    saved_some args.heads.now args.first args.spare args.each c.if-crosswise.false copy-heads.ensures

@@ -1,4 +1,4 @@
--- `write_chain` meets its contract. The invariant: the chain from cell h on is left to be written. The measure is h, since each cell comes after its next.
+-- `write_chain` meets its contract: each turn writes the literal of a cell, and goes to the next one.
 use Rattle.std.proofs.Common.{◌*◌, ◌∙◌, arith}
 use Rattle.listing.proofs.WrittenClauses.{chain_left, chain_room, chain_goes, chain_written}
 use Rattle.listing.proofs.write_chain.Goals as goal

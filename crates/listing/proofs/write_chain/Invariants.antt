@@ -1,4 +1,4 @@
--- `write_chain` meets its contract. The invariant: the chain from cell h on is left to be written. The measure is h, since each cell comes after its next.
+-- The invariant of `write_chain`: the chain from cell h on is left to be written. The measure is h, since each cell comes after its next.
 use Rattle.listing.proofs.WrittenClauses.{ChainLeft}
 use Rattle.listing.proofs.write_chain.Given as goal
 

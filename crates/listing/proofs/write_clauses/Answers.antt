@@ -1,5 +1,4 @@
--- `write_clauses` meets its contract. The invariant: the first k clauses are written, the ends over the heads of their chains. The measure is the
--- clauses left.
+-- `write_clauses` meets its contract: the clauses are strung before one empty chain, and each chain is written out in turn.
 use Rattle.std.proofs.Common.{◌-◌, ◌∙◌, arith}
 use mathlib.Core.Bool.{false}
 use Rattle.predicate.specs.Tree.{tree_at}

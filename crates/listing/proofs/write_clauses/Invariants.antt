@@ -1,5 +1,4 @@
--- `write_clauses` meets its contract. The invariant: the first k clauses are written, the ends over the heads of their chains. The measure is the
--- clauses left.
+-- The invariant of `write_clauses`: the first k clauses are written, the ends over the heads of their chains. The measure is the clauses left.
 use Rattle.std.proofs.Common.{ℕ, ◌-◌, ◌≤◌}
 use mathlib.Core.Bool.{false}
 use mathlib.Core.List.{List}

@@ -34,8 +34,7 @@ returns c =
     let args = c.args in
     let count-clauses = c.count_clauses-size in
     let u32-to-usize = c.u32_to_usize-many in
-    let if1 = c.if-many-clause in
     c.partial_answer.ensures
     ∙ ap partial_answer c.clause_lookup.ensures
     ∙ lookup_clause (clauses false (tree_at args.rows.now args.root)) _ _ count-clauses.ensures c.in-Is.is
-    (omega (arith, u32-to-usize.ensures, if1.false))
+    (omega (arith, u32-to-usize.ensures, c.if-many-clause.false))

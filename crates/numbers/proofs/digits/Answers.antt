@@ -1,4 +1,4 @@
--- `numbers::digits` meets its contract. The invariant: what is past the digits from `end` on is what is past those from `from` on, and so is the value.
+-- `numbers::digits` meets its contract: each turn passes one digit, and the run ends at a byte that is none or with the spelling.
 use Rattle.std.proofs.Common.{sym, ◌∙◌, rules}
 use Rattle.numbers.proofs.Spelling.{digit_in, run_begins, run_on, run_off, run_out}
 use Rattle.numbers.proofs.digits.Goals as goal

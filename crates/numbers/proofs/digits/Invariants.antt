@@ -1,4 +1,4 @@
--- `numbers::digits` meets its contract. The invariant: what is past the digits from `end` on is what is past those from `from` on, and so is the value.
+-- The invariant of `numbers::digits`: what is past the digits from `end` on is what is past those from `from` on, and so is the value.
 use Rattle.std.proofs.Common.{◌-◌, length}
 use Rattle.numbers.proofs.Spelling.{Running}
 use Rattle.numbers.proofs.digits.Given as goal

@@ -12,5 +12,4 @@ returns-then-end-s c = digits_only_unsaid _
 pub returns : goal.returns
 returns c =
     let digits = c.digits-run in
-    let if1 = c.if-end-eq0 in
-    digits_only_said _ _ (c.integer.ensures ∙ run_integer _ _ digits.ensures if1.false c.if-end-s.false)
+    digits_only_said _ _ (c.integer.ensures ∙ run_integer _ _ digits.ensures c.if-end-eq0.false c.if-end-s.false)

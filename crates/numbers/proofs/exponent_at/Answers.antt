@@ -8,16 +8,12 @@ returns-then-s-at c = sym (exponent_end _ _ c.if-s-at.true)
 
 pub returns-then-b-eq101 : goal.returns-then-b-eq101
 returns-then-b-eq101 c =
-    let if1 = c.if-s-at in
-    c.power.ensures ∙ sym (exponent_on _ _ if1.false (is_first _ 101 69 c.if-b-eq101.true))
+    c.power.ensures ∙ sym (exponent_on _ _ c.if-s-at.false (is_first _ 101 69 c.if-b-eq101.true))
 
 pub returns-then-b-eq69 : goal.returns-then-b-eq69
 returns-then-b-eq69 c =
-    let if1 = c.if-s-at in
-    let if2 = c.if-b-eq101 in
-    c.power-then-b-eq69.ensures ∙ sym (exponent_on _ _ if1.false (is_second _ 101 69 if2.false c.if-b-eq69.true))
+    c.power-then-b-eq69.ensures ∙ sym (exponent_on _ _ c.if-s-at.false (is_second _ 101 69 c.if-b-eq101.false c.if-b-eq69.true))
 
 pub returns-else-b-eq69 : goal.returns-else-b-eq69
 returns-else-b-eq69 c =
-    let if1 = c.if-s-at in
-    sym (exponent_off _ _ if1.false (is_other _ 101 69 c.if-b-eq101.false c.if-b-eq69.false))
+    sym (exponent_off _ _ c.if-s-at.false (is_other _ 101 69 c.if-b-eq101.false c.if-b-eq69.false))

@@ -4,13 +4,11 @@ use Rattle.numbers.proofs.fraction.Goals as goal
 
 pub returns-then-b-eq46 : goal.returns-then-b-eq46
 returns-then-b-eq46 c =
-    let if1 = c.if-at-s in
-    fraction_on _ _ if1.true c.if-b-eq46.true c.digits-run.ensures
+    fraction_on _ _ c.if-at-s.true c.if-b-eq46.true c.digits-run.ensures
 
 pub returns-else-b-eq46 : goal.returns-else-b-eq46
 returns-else-b-eq46 c =
-    let if1 = c.if-at-s in
-    fraction_off _ _ if1.true c.if-b-eq46.false
+    fraction_off _ _ c.if-at-s.true c.if-b-eq46.false
 
 pub returns-else-at-s : goal.returns-else-at-s
 returns-else-at-s c =

@@ -9,21 +9,16 @@ returns-then-end-eq0 c = run_neither _ _ c.digits-run.ensures c.if-end-eq0.true
 pub returns-then-end-s : goal.returns-then-end-s
 returns-then-end-s c =
     let digits = c.digits-run in
-    let if1 = c.if-end-eq0 in
-    c.integer.ensures ∙ run_integer _ _ digits.ensures if1.false c.if-end-s.true
+    c.integer.ensures ∙ run_integer _ _ digits.ensures c.if-end-eq0.false c.if-end-s.true
 
 pub returns-then-exponent_at : goal.returns-then-exponent_at
 returns-then-exponent_at c =
     let digits = c.digits-run in
-    let if1 = c.if-end-eq0 in
-    let if2 = c.if-end-s in
     let fraction = c.fraction-after in
-    run_float _ _ digits.ensures _ if1.false if2.false fraction.ensures (sym c.exponent_at.ensures ∙ c.if-exponent_at.true)
+    run_float _ _ digits.ensures _ c.if-end-eq0.false c.if-end-s.false fraction.ensures (sym c.exponent_at.ensures ∙ c.if-exponent_at.true)
 
 pub returns-else-exponent_at : goal.returns-else-exponent_at
 returns-else-exponent_at c =
     let digits = c.digits-run in
-    let if1 = c.if-end-eq0 in
-    let if2 = c.if-end-s in
     let fraction = c.fraction-after in
-    run_bad _ _ digits.ensures _ if1.false if2.false fraction.ensures (sym c.exponent_at.ensures ∙ c.if-exponent_at.false)
+    run_bad _ _ digits.ensures _ c.if-end-eq0.false c.if-end-s.false fraction.ensures (sym c.exponent_at.ensures ∙ c.if-exponent_at.false)

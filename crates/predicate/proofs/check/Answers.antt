@@ -25,13 +25,11 @@ pub returns-then-only_whole : goal.returns-then-only_whole
 returns-then-only_whole c =
     let args = c.args in
     let count = c.count-whole in
-    let if1 = c.if-text-gt-TEXT_MAX in
-    let if2 = c.if-whole-gt-ROWS_MAX in
     let only-whole = c.only_whole in
     checks args.text.now args.rows.now
     (c.check_rows.ensures
     ∙ sym (ap checked_of
-    (in_turn args.text.now args.rows.now if1.false (omega (arith, if2.false, count.ensures))
+    (in_turn args.text.now args.rows.now c.if-text-gt-TEXT_MAX.false (omega (arith, c.if-whole-gt-ROWS_MAX.false, count.ensures))
     (sym only-whole.ensures ∙ c.if-only_whole.true))))
 
 pub returns : goal.returns
@@ -39,10 +37,8 @@ unfolding checked_of
 returns c =
     let args = c.args in
     let count = c.count-whole in
-    let if1 = c.if-text-gt-TEXT_MAX in
-    let if2 = c.if-whole-gt-ROWS_MAX in
     checks args.text.now args.rows.now
     (ap (Refused BadTree) count.ensures
     ∙ sym (ap checked_of
-    (ragged args.text.now args.rows.now if1.false (omega (arith, if2.false, count.ensures))
+    (ragged args.text.now args.rows.now c.if-text-gt-TEXT_MAX.false (omega (arith, c.if-whole-gt-ROWS_MAX.false, count.ensures))
     (sym c.only_whole.ensures ∙ c.if-only_whole.false))))

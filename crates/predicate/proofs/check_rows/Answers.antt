@@ -1,4 +1,4 @@
--- `check_rows` meets its contract. The invariant: the reading stands before row r. The measure is the rows left.
+-- `check_rows` meets its contract: each turn reads one row, and the last row is asked for what stands before it.
 use Rattle.std.proofs.Common.{◌-◌, sym, ◌∙◌, arith}
 use Rattle.predicate.proofs.CheckLoop.{begins, below_of, sound_last, goes, stops, no_rows, one_root, several_roots}
 use Rattle.predicate.proofs.check_rows.Goals as goal
@@ -60,15 +60,13 @@ returns-then-first-eq0 c =
     let count = c.count-whole in
     let loop = c.loop-r in
     let loop-test = c.loop-r-test in
-    let if2 = c.if-whole-eq0 in
     one_root (count.result - 1) loop.invariant.0 (omega (arith, loop-test.false, loop.invariant.1))
-    (omega (arith, if2.false, loop-test.false, loop.invariant.1, loop.invariant.0.within)) (sym c.first_of-first.ensures ∙ c.if-first-eq0.true)
+    (omega (arith, c.if-whole-eq0.false, loop-test.false, loop.invariant.1, loop.invariant.0.within)) (sym c.first_of-first.ensures ∙ c.if-first-eq0.true)
 
 pub returns-else-first-eq0 : goal.returns-else-first-eq0
 returns-else-first-eq0 c =
     let count = c.count-whole in
     let loop = c.loop-r in
     let loop-test = c.loop-r-test in
-    let if2 = c.if-whole-eq0 in
     several_roots (count.result - 1) loop.invariant.0 (omega (arith, loop-test.false, loop.invariant.1))
-    (omega (arith, if2.false, loop-test.false, loop.invariant.1, loop.invariant.0.within)) (λ e. c.if-first-eq0.false (c.first_of-first.ensures ∙ e))
+    (omega (arith, c.if-whole-eq0.false, loop-test.false, loop.invariant.1, loop.invariant.0.within)) (λ e. c.if-first-eq0.false (c.first_of-first.ensures ∙ e))

@@ -1,4 +1,4 @@
--- `check_rows` meets its contract. The invariant: the reading stands before row r. The measure is the rows left.
+-- The invariant of `check_rows`: the reading stands before row r. The measure is the rows left.
 use Rattle.std.proofs.Common.{◌≡◌, ◌-◌}
 use Rattle.rows.specs.Layout.{row_count}
 use Rattle.predicate.proofs.CheckLoop.{Reads}

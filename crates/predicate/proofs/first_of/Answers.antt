@@ -1,4 +1,4 @@
--- `first_of` meets its contract. The invariant: row q can be followed down, and its tree begins where that of row r does. The measure is q.
+-- `first_of` meets its contract: a row without operands is the first of its tree, and any other begins where its first operand does.
 use Rattle.std.proofs.Common.{refl, sym, ◌∙◌, arith}
 use Rattle.predicate.proofs.Trees.{sound_below, first_named, falls_named}
 use Rattle.predicate.proofs.first_of.Goals as goal

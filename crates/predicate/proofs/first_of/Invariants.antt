@@ -1,4 +1,4 @@
--- `first_of` meets its contract. The invariant: row q can be followed down, and its tree begins where that of row r does. The measure is q.
+-- The invariant of `first_of`: row q can be followed down, and its tree begins where that of row r does. The measure is q.
 use Rattle.std.proofs.Common.{◌≡◌}
 use Rattle.predicate.specs.Tree.{first_at, Sound}
 use Rattle.predicate.proofs.first_of.Given as goal

@@ -7,9 +7,8 @@ returns-then-allowed c =
     let row_at = c.row_at-row in
     let class_of = c.class_of-class in
     let allowed = c.allowed in
-    let if1 = c.if-allowed in
     let shape_of = c.shape_of in
-    good_on _ _ _ row_at.ensures class_of.ensures allowed.ensures if1.true shape_of.ensures c.operands.ensures
+    good_on _ _ _ row_at.ensures class_of.ensures allowed.ensures c.if-allowed.true shape_of.ensures c.operands.ensures
     c.operands_precede.ensures
 
 pub returns : goal.returns

@@ -12,13 +12,11 @@ first_of-first-requires c =
 
 pub returns-then-x-first : goal.returns-then-x-first
 returns-then-x-first c =
-    let if3 = c.if-y-r-2 in
-    precede_two _ _ c.in-Two.is if3.true c.first_of-first.ensures
+    precede_two _ _ c.in-Two.is c.if-y-r-2.true c.first_of-first.ensures
 
 pub returns-else-x-first : goal.returns-else-x-first
 returns-else-x-first c =
-    let if3 = c.if-y-r-2 in
-    left_off _ _ c.in-Two.is if3.true c.first_of-first.ensures (λ e. omega (arith, c.if-x-first.false))
+    left_off _ _ c.in-Two.is c.if-y-r-2.true c.first_of-first.ensures (λ e. omega (arith, c.if-x-first.false))
 
 pub returns-in-Nil : goal.returns-in-Nil
 returns-in-Nil c = precede_nil _ _ c.in-Nil.is

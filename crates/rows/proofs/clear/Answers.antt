@@ -1,4 +1,4 @@
--- `rows::clear` meets its contract. The loop's invariant: the numbers passed are 0, and the others as they were.
+-- `rows::clear` meets its contract: each turn makes one more number 0.
 use Rattle.std.proofs.Common.{ℕ, ◌≡◌, length, refl, ap, ◌∙◌, arith}
 use borrow.Author.Fill.{fill_more}
 use mathlib.Core.List.{List, ◌++◌, append-nil}

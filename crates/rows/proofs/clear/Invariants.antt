@@ -1,4 +1,4 @@
--- `rows::clear` meets its contract. The loop's invariant: the numbers passed are 0, and the others as they were.
+-- The invariant of `rows::clear`: the numbers passed are 0, and the others as they were. The measure is the numbers left.
 use Rattle.std.proofs.Common.{◌≡◌, ◌-◌, ◌≤◌, length}
 use mathlib.Core.List.{◌++◌}
 use lib.ListN.{drop, replicate}

@@ -32,11 +32,10 @@ returns-then-ends-n c =
     let args = c.args in
     let count-clauses = c.count_clauses-size in
     let u32-to-usize = c.u32_to_usize-n in
-    let u32-to-usize2 = c.u32_to_usize-t in
     let z = sizes (clauses false (tree_at args.rows.now args.r)) args.literals.now args.ends.now count-clauses.ensures
     c.in-Is.is in
     gives_shorter (clauses false (tree_at args.rows.now args.r)) args.literals.now args.ends.now count-clauses.ensures
-    c.in-Is.is (omega (arith, z.1, u32-to-usize2.ensures, c.if-literals-t.false))
+    c.in-Is.is (omega (arith, z.1, c.u32_to_usize-t.ensures, c.if-literals-t.false))
     (omega (arith, z.0, u32-to-usize.ensures, c.if-ends-n.true))
 
 pub write_counted-requires : goal.write_counted-requires
@@ -45,14 +44,13 @@ write_counted-requires c =
     let pre = c.requires in
     let count-clauses = c.count_clauses-size in
     let u32-to-usize = c.u32_to_usize-n in
-    let u32-to-usize2 = c.u32_to_usize-t in
     let z = sizes (clauses false (tree_at args.rows.now args.r)) args.literals.now args.ends.now count-clauses.ensures
     c.in-Is.is in (
       pre.0,
       pre.1,
       omega (arith, z.0, u32-to-usize.ensures),
-      omega (arith, z.1, u32-to-usize2.ensures),
-      (omega (arith, z.0, z.2, u32-to-usize.ensures), omega (arith, z.1, z.3, u32-to-usize2.ensures)),
+      omega (arith, z.1, c.u32_to_usize-t.ensures),
+      (omega (arith, z.0, z.2, u32-to-usize.ensures), omega (arith, z.1, z.3, c.u32_to_usize-t.ensures)),
       (omega arith, omega arith),
     )
 
@@ -61,12 +59,9 @@ returns c =
     let args = c.args in
     let count-clauses = c.count_clauses-size in
     let u32-to-usize = c.u32_to_usize-n in
-    let u32-to-usize2 = c.u32_to_usize-t in
-    let if1 = c.if-literals-t in
-    let if2 = c.if-ends-n in
     let write-counted = c.write_counted in
     let z = sizes (clauses false (tree_at args.rows.now args.r)) args.literals.now args.ends.now count-clauses.ensures
     c.in-Is.is in
     gives_all (clauses false (tree_at args.rows.now args.r)) args.literals.now args.ends.now count-clauses.ensures
-    c.in-Is.is u32-to-usize.ensures u32-to-usize2.ensures (omega (arith, z.1, u32-to-usize2.ensures, if1.false))
-    (omega (arith, z.0, u32-to-usize.ensures, if2.false)) write-counted.ensures
+    c.in-Is.is u32-to-usize.ensures c.u32_to_usize-t.ensures (omega (arith, z.1, c.u32_to_usize-t.ensures, c.if-literals-t.false))
+    (omega (arith, z.0, u32-to-usize.ensures, c.if-ends-n.false)) write-counted.ensures

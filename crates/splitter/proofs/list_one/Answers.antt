@@ -13,12 +13,10 @@ returns-then-ends-eq0 c = λ t e. one_shorter _ t _ _ c.if-literals-eq0.false c.
 pub returns : goal.returns
 returns c =
     let args = c.args in
-    let if1 = c.if-literals-eq0 in
-    let if2 = c.if-ends-eq0 in
     let literal-number = c.literal_number in
     λ t e.
     one_all _ t _ _
     (c.usize_to_u32.ensures
     ∙ c.u16_to_usize.ensures
     ∙ literal-number.ensures
-    ∙ ap (λ (q : ℕ). 2 * q + bit args.negated) (sym e)) if1.false if2.false
+    ∙ ap (λ (q : ℕ). 2 * q + bit args.negated) (sym e)) c.if-literals-eq0.false c.if-ends-eq0.false

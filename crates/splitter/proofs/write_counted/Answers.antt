@@ -9,12 +9,11 @@ use Rattle.splitter.proofs.write_counted.Goals as goal
 pub write_clauses-requires : goal.write_clauses-requires
 write_clauses-requires c =
     let args = c.args in
-    let pre = c.requires in
-    let if1 = c.if-t-le-FEW in (
+    let pre = c.requires in (
       pre.0,
       pre.1,
       pre.2,
-      room_of (clauses false (tree_at args.rows.now args.r)) _ _ refl (omega (arith, pre.3, if1.true)) (omega arith)
+      room_of (clauses false (tree_at args.rows.now args.r)) _ _ refl (omega (arith, pre.3, c.if-t-le-FEW.true)) (omega arith)
           (omega (arith, pre.3, pre.5.0)) (omega (arith, pre.2, pre.5.1)),
     )
 
@@ -36,5 +35,4 @@ write_clauses-requires-2 c =
 
 pub returns : goal.returns
 returns c =
-    let write-clauses2 = c.write_clauses-2 in
-    write-clauses2.ensures
+    c.write_clauses-2.ensures

@@ -8,41 +8,29 @@ use Rattle.columns.proofs.test.equal_test.Goals as goal
 pub returns-then-is_constant : goal.returns-then-is_constant
 returns-then-is_constant c =
     let is-column = c.is_column in
-    let if1 = c.if-is_column in
     let is-constant = c.is_constant in
-    let if2 = c.if-is_constant in
     ap₂ Equals c.u64_to_usize.ensures c.constant_of_row.ensures
-    ∙ equal_left _ _ (sym is-column.ensures ∙ if1.true) (sym is-constant.ensures ∙ if2.true)
+    ∙ equal_left _ _ (sym is-column.ensures ∙ c.if-is_column.true) (sym is-constant.ensures ∙ c.if-is_constant.true)
 
 pub returns-else-is_constant : goal.returns-else-is_constant
 returns-else-is_constant c =
     let is-column = c.is_column in
-    let if1 = c.if-is_column in
-    equal_left_none _ _ (sym is-column.ensures ∙ if1.true) (sym c.is_constant.ensures ∙ c.if-is_constant.false)
+    equal_left_none _ _ (sym is-column.ensures ∙ c.if-is_column.true) (sym c.is_constant.ensures ∙ c.if-is_constant.false)
 
 pub returns-then-is_constant-2 : goal.returns-then-is_constant-2
 returns-then-is_constant-2 c =
     let is-column = c.is_column in
-    let if1 = c.if-is_column in
-    let is-column2 = c.is_column-else-is_column in
-    let if3 = c.if-is_column-2 in
-    let is-constant2 = c.is_constant-then-is_column-2 in
-    let if4 = c.if-is_constant-2 in
     ap₂ Equals c.u64_to_usize-then-is_constant-2.ensures c.constant_of_row-then-is_constant-2.ensures
-    ∙ equal_right _ _ (sym is-column.ensures ∙ if1.false) (sym is-column2.ensures ∙ if3.true)
-    (sym is-constant2.ensures ∙ if4.true)
+    ∙ equal_right _ _ (sym is-column.ensures ∙ c.if-is_column.false) (sym c.is_column-else-is_column.ensures ∙ c.if-is_column-2.true)
+    (sym c.is_constant-then-is_column-2.ensures ∙ c.if-is_constant-2.true)
 
 pub returns-else-is_constant-2 : goal.returns-else-is_constant-2
 returns-else-is_constant-2 c =
     let is-column = c.is_column in
-    let if1 = c.if-is_column in
-    let is-column2 = c.is_column-else-is_column in
-    let if3 = c.if-is_column-2 in
-    equal_right_none _ _ (sym is-column.ensures ∙ if1.false) (sym is-column2.ensures ∙ if3.true)
+    equal_right_none _ _ (sym is-column.ensures ∙ c.if-is_column.false) (sym c.is_column-else-is_column.ensures ∙ c.if-is_column-2.true)
     (sym c.is_constant-then-is_column-2.ensures ∙ c.if-is_constant-2.false)
 
 pub returns-else-is_column-2 : goal.returns-else-is_column-2
 returns-else-is_column-2 c =
     let is-column = c.is_column in
-    let if1 = c.if-is_column in
-    equal_none _ _ (sym is-column.ensures ∙ if1.false) (sym c.is_column-else-is_column.ensures ∙ c.if-is_column-2.false)
+    equal_none _ _ (sym is-column.ensures ∙ c.if-is_column.false) (sym c.is_column-else-is_column.ensures ∙ c.if-is_column-2.false)

@@ -31,10 +31,9 @@ returns-then-row-eq-IS c =
     let pre = c.requires in
     let row_at = c.row_at-row in
     let shape_at = c.shape_at-shape in
-    let if1 = c.if-row-eq-IS in
     c.is_test.ensures
     ∙ ap₂ is_test c.leaf_at.ensures (ap (λ (w : Row). w.y) row_at.ensures)
-    ∙ test_is pre shape_at.ensures c.in-One.is (sym (ap (λ (w : Row). w.kind) row_at.ensures) ∙ if1.true)
+    ∙ test_is pre shape_at.ensures c.in-One.is (sym (ap (λ (w : Row). w.kind) row_at.ensures) ∙ c.if-row-eq-IS.true)
 
 pub returns-else-row-eq-IS : goal.returns-else-row-eq-IS
 returns-else-row-eq-IS c =
@@ -48,11 +47,9 @@ returns-then-row-eq-EQUAL c =
     let pre = c.requires in
     let row_at = c.row_at-row in
     let shape_at = c.shape_at-shape in
-    let if2 = c.if-row-eq-EQUAL in
-    let leaf-at2 = c.leaf_at-then-row-eq-EQUAL in
     c.equal_test.ensures
-    ∙ ap₂ equal_test leaf-at2.ensures c.leaf_at-then-row-eq-EQUAL-2.ensures
-    ∙ test_equal pre shape_at.ensures c.in-Two.is (sym (ap (λ (w : Row). w.kind) row_at.ensures) ∙ if2.true)
+    ∙ ap₂ equal_test c.leaf_at-then-row-eq-EQUAL.ensures c.leaf_at-then-row-eq-EQUAL-2.ensures
+    ∙ test_equal pre shape_at.ensures c.in-Two.is (sym (ap (λ (w : Row). w.kind) row_at.ensures) ∙ c.if-row-eq-EQUAL.true)
 
 pub returns-else-row-eq-EQUAL : goal.returns-else-row-eq-EQUAL
 returns-else-row-eq-EQUAL c =

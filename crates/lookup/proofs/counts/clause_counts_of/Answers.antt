@@ -89,9 +89,8 @@ pub returns-in-Either : goal.returns-in-Either
 returns-in-Either c =
     let pre = c.requires in
     let shape_at = c.shape_at-shape in
-    let clause-counts-at3 = c.clause_counts_at-in-Either in
     c.either_counts.ensures
-    ∙ ap₂ either_counts (read_counts pre.2 (falls_either pre.0 shape_at.ensures c.in-Either.is).0 clause-counts-at3.ensures)
+    ∙ ap₂ either_counts (read_counts pre.2 (falls_either pre.0 shape_at.ensures c.in-Either.is).0 c.clause_counts_at-in-Either.ensures)
     (read_counts pre.2 (falls_either pre.0 shape_at.ensures c.in-Either.is).1 c.clause_counts_at-in-Either-2.ensures)
     ∙ disjoined_counts pre.0 shape_at.ensures c.in-Either.is
 

@@ -1,4 +1,4 @@
--- `counts::fill_clause_counts` meets its contract. The invariant: the table has the counts of the rows that were passed.
+-- `counts::fill_clause_counts` meets its contract: each turn writes the two counts of a row.
 use Rattle.std.proofs.Common.{refl, arith}
 use lib.ListN.{length-set}
 use Rattle.predicate.proofs.Trees.{sound_below}

@@ -1,4 +1,4 @@
--- `counts::fill_clause_counts` meets its contract. The invariant: the table has the counts of the rows that were passed.
+-- The invariant of `counts::fill_clause_counts`: the table has the counts of the rows that were passed.
 use Rattle.std.proofs.Common.{◌≡◌, ◌+◌, ◌-◌, ◌≤◌, length}
 use Rattle.lookup.specs.ByNumber.{CountsBelow}
 use Rattle.lookup.proofs.counts.fill_clause_counts.Given as goal

@@ -13,5 +13,4 @@ returns-then-not-postfix_at c =
 
 pub returns : goal.returns
 returns c =
-    let the-postfixes = c.postfixes in
-    the-postfixes.ensures
+    c.postfixes.ensures

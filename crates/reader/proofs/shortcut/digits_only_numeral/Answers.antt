@@ -8,8 +8,7 @@ use Rattle.reader.proofs.shortcut.digits_only_numeral.Goals as goal
 
 pub returns-in_default : goal.returns-in_default
 returns-in_default c =
-    let the-numeral = c.numeral in
-    the-numeral.ensures
+    c.numeral.ensures
 
 pub returns : goal.returns
 unfolding numeral

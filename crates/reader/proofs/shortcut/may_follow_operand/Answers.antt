@@ -22,6 +22,5 @@ pub returns-else-binds : goal.returns-else-binds
 returns-else-binds c =
     let infix-precedence = c.infix_precedence in
     let binds = c.binds in
-    let if1 = c.if-binds in
     rw c.postfix_precedence.ensures at c.binds-else-binds.ensures
-    ∙ sym (may_follow_postfix c.args.k c.args.min (omega arith) (omega arith) (rw infix-precedence.ensures at (sym binds.ensures ∙ if1.false)))
+    ∙ sym (may_follow_postfix c.args.k c.args.min (omega arith) (omega arith) (rw infix-precedence.ensures at (sym binds.ensures ∙ c.if-binds.false)))

@@ -19,6 +19,5 @@ returns-in-2 c =
 pub returns-in_default : goal.returns-in_default
 returns-in_default c =
     let kind_at = c.kind_at in
-    let push-leaf2 = c.push_leaf-in_default in
     gives_same (sym (single_name _ _ _ _ (omega arith) (omega arith)))
-    push-leaf2.ensures
+    c.push_leaf-in_default.ensures

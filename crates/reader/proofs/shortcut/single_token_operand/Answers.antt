@@ -15,10 +15,8 @@ returns-then-not-starts_leaf c =
 
 pub returns : goal.returns
 returns c =
-    let if1 = c.if-levels-eq0 in
     let kind_at = c.kind_at in
     let starts-leaf = c.starts_leaf in
-    let if2 = c.if-not-starts_leaf in
     ap not (rw c.kind_at-2.ensures at c.may_follow_operand.ensures)
-    ∙ sym (single_with_leaf _ _ _ _ (omega (arith, if1.false))
-    (rw kind_at.ensures at (sym starts-leaf.ensures ∙ if2.false)))
+    ∙ sym (single_with_leaf _ _ _ _ (omega (arith, c.if-levels-eq0.false))
+    (rw kind_at.ensures at (sym starts-leaf.ensures ∙ c.if-not-starts_leaf.false)))

@@ -21,10 +21,9 @@ unfolding numeral
 returns-in-Float c =
     let args = c.args in
     let spelled = c.spelled in
-    let push-leaf2 = c.push_leaf-in-Float in
     gives_same
     (sym (ap (λ (x : Number). numeral x args.c args.rows.now)
-    (sym (ap number_of spelled.ensures.bytes) ∙ sym c.number_of.ensures ∙ c.in-Float.is))) push-leaf2.ensures
+    (sym (ap number_of spelled.ensures.bytes) ∙ sym c.number_of.ensures ∙ c.in-Float.is))) c.push_leaf-in-Float.ensures
 
 pub returns-in-Neither : goal.returns-in-Neither
 unfolding numeral

@@ -14,16 +14,14 @@ overflow_add-after c = omega (arith, kind_is _ _ kind.NULL (omega arith) (sym c.
 pub returns-then-kind_at-eq-NULL : goal.returns-then-kind_at-eq-NULL
 returns-then-kind_at-eq-NULL c =
     let kind_at = c.kind_at in
-    let if1 = c.if-kind_at-eq-NULL in
     let push-over-last = c.push_over_last in
-    gives_same (sym (null_is _ _ _ (sym kind_at.ensures ∙ if1.true))) push-over-last.ensures
+    gives_same (sym (null_is _ _ _ (sym kind_at.ensures ∙ c.if-kind_at-eq-NULL.true))) push-over-last.ensures
 
 pub returns-in_default : goal.returns-in_default
 returns-in_default c =
     let kind_at = c.kind_at in
-    let if1 = c.if-kind_at-eq-NULL in
     let need = c.need-s in
-    after_refused _ c.in_default.is (need.ensures _) (sym (null_not _ _ _ (λ e. if1.false (kind_at.ensures ∙ e))))
+    after_refused _ c.in_default.is (need.ensures _) (sym (null_not _ _ _ (λ e. c.if-kind_at-eq-NULL.false (kind_at.ensures ∙ e))))
 
 pub push_over_last-requires-2 : goal.push_over_last-requires-2
 push_over_last-requires-2 c =
@@ -35,8 +33,6 @@ push_over_last-requires-2 c =
 pub returns : goal.returns
 returns c =
     let kind_at = c.kind_at in
-    let if1 = c.if-kind_at-eq-NULL in
     let need = c.need-s in
-    let push-over-last2 = c.push_over_last-2 in
-    gives_same (sym (after_read _ c.in-Read.is (need.ensures _)) ∙ sym (null_not _ _ _ (λ e. if1.false (kind_at.ensures ∙ e))))
-    push-over-last2.ensures
+    gives_same (sym (after_read _ c.in-Read.is (need.ensures _)) ∙ sym (null_not _ _ _ (λ e. c.if-kind_at-eq-NULL.false (kind_at.ensures ∙ e))))
+    c.push_over_last-2.ensures

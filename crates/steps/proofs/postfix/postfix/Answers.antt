@@ -9,44 +9,31 @@ use Rattle.steps.proofs.postfix.postfix.Goals as goal
 pub returns-then-kind_at-eq-EXCLAMATION : goal.returns-then-kind_at-eq-EXCLAMATION
 returns-then-kind_at-eq-EXCLAMATION c =
     let kind_at = c.kind_at in
-    let if1 = c.if-kind_at-eq-EXCLAMATION in
     let push-over-last = c.push_over_last in
-    gives_same (sym (postfix_bang _ _ _ (sym kind_at.ensures ∙ if1.true))) push-over-last.ensures
+    gives_same (sym (postfix_bang _ _ _ (sym kind_at.ensures ∙ c.if-kind_at-eq-EXCLAMATION.true))) push-over-last.ensures
 
 pub returns-then-kind_at-ne-NOT : goal.returns-then-kind_at-ne-NOT
 returns-then-kind_at-ne-NOT c =
     let kind_at = c.kind_at in
-    let if1 = c.if-kind_at-eq-EXCLAMATION in
-    let kind-at2 = c.kind_at-2 in
-    let if2 = c.if-kind_at-ne-NOT in
     let null-or-nan = c.null_or_nan in
-    gives_same (sym (postfix_is _ _ _ (λ e. if1.false (kind_at.ensures ∙ e)) (λ e. if2.true (kind-at2.ensures ∙ e))))
+    gives_same (sym (postfix_is _ _ _ (λ e. c.if-kind_at-eq-EXCLAMATION.false (kind_at.ensures ∙ e)) (λ e. c.if-kind_at-ne-NOT.true (c.kind_at-2.ensures ∙ e))))
     null-or-nan.ensures
 
 pub returns-in_default : goal.returns-in_default
 returns-in_default c =
     let kind_at = c.kind_at in
-    let if1 = c.if-kind_at-eq-EXCLAMATION in
-    let kind-at2 = c.kind_at-2 in
-    let if2 = c.if-kind_at-ne-NOT in
-    let null-or-nan2 = c.null_or_nan-s in
-    after_refused _ c.in_default.is null-or-nan2.ensures
-    (sym (postfix_is_not _ _ _ (λ e. if1.false (kind_at.ensures ∙ e)) (sym kind-at2.ensures ∙ if2.false)))
+    after_refused _ c.in_default.is c.null_or_nan-s.ensures
+    (sym (postfix_is_not _ _ _ (λ e. c.if-kind_at-eq-EXCLAMATION.false (kind_at.ensures ∙ e)) (sym c.kind_at-2.ensures ∙ c.if-kind_at-ne-NOT.false)))
 
 pub push_over_last-requires-2 : goal.push_over_last-requires-2
 push_over_last-requires-2 c =
     let pre = c.requires in
-    let null-or-nan2 = c.null_or_nan-s in
-    came c.in-Read.is null-or-nan2.ensures (null_writes _ _ _ pre.1)
+    came c.in-Read.is c.null_or_nan-s.ensures (null_writes _ _ _ pre.1)
 
 pub returns : goal.returns
 returns c =
     let kind_at = c.kind_at in
-    let if1 = c.if-kind_at-eq-EXCLAMATION in
-    let kind-at2 = c.kind_at-2 in
-    let if2 = c.if-kind_at-ne-NOT in
-    let null-or-nan2 = c.null_or_nan-s in
-    let push-over-last2 = c.push_over_last-2 in
     gives_same
-    (sym (after_read _ c.in-Read.is null-or-nan2.ensures)
-    ∙ sym (postfix_is_not _ _ _ (λ e. if1.false (kind_at.ensures ∙ e)) (sym kind-at2.ensures ∙ if2.false))) push-over-last2.ensures
+    (sym (after_read _ c.in-Read.is c.null_or_nan-s.ensures)
+    ∙ sym (postfix_is_not _ _ _ (λ e. c.if-kind_at-eq-EXCLAMATION.false (kind_at.ensures ∙ e))
+    (sym c.kind_at-2.ensures ∙ c.if-kind_at-ne-NOT.false))) c.push_over_last-2.ensures

@@ -1,5 +1,4 @@
--- `postfix::postfixes` meets its contract. The loop's invariant: what is to come from here is what was to come from the start, and a row is
--- written. The measure is how many tokens are left.
+-- `postfix::postfixes` meets its contract: each turn applies one postfix operator, and the first token that is none ends it.
 use Rattle.std.proofs.Common.{◌+◌, sym, ◌∙◌, arith}
 use Rattle.grammar.specs.Memory.{postfixes}
 use Rattle.grammar.proofs.Answers.{after_read, after_refused, gives_read}

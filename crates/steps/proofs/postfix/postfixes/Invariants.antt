@@ -1,5 +1,5 @@
--- `postfix::postfixes` meets its contract. The loop's invariant: what is to come from here is what was to come from the start, and a row is
--- written. The measure is how many tokens are left.
+-- The invariant of `postfix::postfixes`: what is to come from here is what was to come from the start, and a row is written. The measure is how many
+-- tokens are left.
 use Rattle.std.proofs.Common.{ℕ, ◌-◌, ◌<◌}
 use Rattle.tokens.specs.Token.{token_count, kind_at}
 use Rattle.operators.specs.Operator.{binds, postfix_of}

@@ -9,6 +9,5 @@ returns-then-capacity-n c = gives_refusal (push_full _ _ _ (rw c.capacity.ensure
 pub returns : goal.returns
 returns c =
     let capacity = c.capacity in
-    let if1 = c.if-capacity-n in
     let write-row = c.write_row in
-    rw write-row.ensures (gives_read (push_room _ _ _ (rw capacity.ensures at if1.false)))
+    rw write-row.ensures (gives_read (push_room _ _ _ (rw capacity.ensures at c.if-capacity-n.false)))

@@ -11,11 +11,8 @@ returns-then-whole-gt-TOKENS_MAX c = sym (long_table _ _ c.if-text-gt-TEXT_MAX.f
 
 pub returns-then-tokens-ne0 : goal.returns-then-tokens-ne0
 returns-then-tokens-ne0 c =
-    let if1 = c.if-text-gt-TEXT_MAX in
-    sym (ragged _ _ if1.false c.if-whole-gt-TOKENS_MAX.false c.if-tokens-ne0.true)
+    sym (ragged _ _ c.if-text-gt-TEXT_MAX.false c.if-whole-gt-TOKENS_MAX.false c.if-tokens-ne0.true)
 
 pub returns : goal.returns
 returns c =
-    let if1 = c.if-text-gt-TEXT_MAX in
-    let if2 = c.if-whole-gt-TOKENS_MAX in
-    c.check_tokens.ensures ∙ sym (in_turn _ _ if1.false if2.false c.if-tokens-ne0.false)
+    c.check_tokens.ensures ∙ sym (in_turn _ _ c.if-text-gt-TEXT_MAX.false c.if-whole-gt-TOKENS_MAX.false c.if-tokens-ne0.false)

@@ -1,4 +1,4 @@
--- `table::check_tokens` meets its contract. The invariant: from token n on, the check comes to what it comes to from the first.
+-- `table::check_tokens` meets its contract: each turn checks one token, and the first that is not good is the answer.
 use Rattle.std.proofs.Common.{refl, sym, ◌∙◌, rules}
 use Rattle.tokens.proofs.TokenTable.{check_begins, check_on, check_off, check_ends}
 use Rattle.tokens.proofs.table.check_tokens.Goals as goal

@@ -1,4 +1,4 @@
--- `table::check_tokens` meets its contract. The invariant: from token n on, the check comes to what it comes to from the first.
+-- The invariant of `table::check_tokens`: from token n on, the check comes to what it comes to from the first. The measure is the tokens left.
 use Rattle.std.proofs.Common.{◌≡◌, ◌-◌}
 use Rattle.tokens.specs.Token.{token_count}
 use Rattle.tokens.proofs.TokenTable.{Checking}

@@ -5,8 +5,7 @@ use Rattle.tokens.proofs.table.token_at.Goals as goal
 
 pub returns-then-n-tokens : goal.returns-then-n-tokens
 returns-then-n-tokens c =
-    let if1 = c.if-n-tokens in
-    sym (there _ _ if1.true)
+    sym (there _ _ c.if-n-tokens.true)
 
 pub returns-else-n-tokens : goal.returns-else-n-tokens
 returns-else-n-tokens c = sym (missing _ _ c.if-n-tokens.false)
