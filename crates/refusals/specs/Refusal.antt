@@ -1,6 +1,7 @@
--- The number of each refusal (FORMAT §11).
+-- The number of each refusal (FORMAT §11), and a refusal at a place.
 use Rattle.std.specs.Prelude.{ℕ}
 use Rattle.refusals.specs.declared.Refusal.{Refusal}
+use Rattle.refusals.specs.declared.Refused.{Refused}
 use Rattle.refusals.specs.declared.Refusal.TheVariants.{TooLong, BadTable, End, NoAtom, NeedClose, NeedComma, NeedName, NeedNullOrNan}
 use Rattle.refusals.specs.declared.Refusal.TheVariants.{LeftOver, BadNumber, TooDeep, NoRoom, BadTree, TooMany, NoList, NotLookup, NoSuch}
 
@@ -22,3 +23,7 @@ refusal_number TooMany = 11
 refusal_number NoList = 12
 refusal_number NotLookup = 13
 refusal_number NoSuch = 14
+
+-- a refusal, and its place
+abbrev pub refused : Refusal → ℕ → Refused
+refused why place = record { why = why; place = place }

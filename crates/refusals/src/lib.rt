@@ -1,10 +1,11 @@
-// Why an entry gives no answer: the names, and the number of each.
+// Why an entry gives no answer, and where: the names, and the number of each.
 #![tactic(auto)]
 
 ghost use Rattle.std.specs.Prelude.{◌≡◌};
-ghost use Rattle.refusals.specs.Refusal.{refusal_number};
+ghost use Rattle.refusals.specs.Refusal.{refusal_number, refused};
 
-#[derive(Clone, Copy)]
+// Why there is no answer.
+#[derive(Clone, Copy, Debug, PartialEq, Eq)]
 pub enum Refusal {
     TooLong,
     BadTable,
@@ -25,27 +26,48 @@ pub enum Refusal {
     NoSuch,
 }
 
-// Answers the number by which callers know a refusal. The four that need some token are WRONG_TOKEN to them.
-pub fn number_of(why: Refusal) -> u32
-    ensures { result ≡ refusal_number why }
-{
-    match why {
-        Refusal::TooLong => 1,
-        Refusal::BadTable => 2,
-        Refusal::End => 3,
-        Refusal::NoAtom => 4,
-        Refusal::NeedClose => 5,
-        Refusal::NeedComma => 5,
-        Refusal::NeedName => 5,
-        Refusal::NeedNullOrNan => 5,
-        Refusal::LeftOver => 6,
-        Refusal::BadNumber => 7,
-        Refusal::TooDeep => 8,
-        Refusal::NoRoom => 9,
-        Refusal::BadTree => 10,
-        Refusal::TooMany => 11,
-        Refusal::NoList => 12,
-        Refusal::NotLookup => 13,
-        Refusal::NoSuch => 14,
+// What an entry answers where it gives no answer: why, and the place that FORMAT §11 says.
+#[derive(Clone, Copy, Debug, PartialEq, Eq)]
+pub struct Refused {
+    pub why: Refusal,
+    pub place: usize,
+}
+
+impl Refusal {
+    // Answers this refusal at a place.
+    pub fn at(self, place: usize) -> Refused
+        ensures { result ≡ refused self place }
+    {
+        Refused { why: self, place }
+    }
+}
+
+// The number by which callers know a refusal. The four that need some token are WRONG_TOKEN to them.
+impl From<Refusal> for u32 {
+    ghost use Rattle.std.specs.Prelude.{◌≡◌};
+    ghost use Rattle.refusals.specs.Refusal.{refusal_number};
+
+    ghost from_gives = { λ why n. n ≡ refusal_number why };
+
+    fn from(why: Refusal) -> u32 {
+        match why {
+            Refusal::TooLong => 1,
+            Refusal::BadTable => 2,
+            Refusal::End => 3,
+            Refusal::NoAtom => 4,
+            Refusal::NeedClose => 5,
+            Refusal::NeedComma => 5,
+            Refusal::NeedName => 5,
+            Refusal::NeedNullOrNan => 5,
+            Refusal::LeftOver => 6,
+            Refusal::BadNumber => 7,
+            Refusal::TooDeep => 8,
+            Refusal::NoRoom => 9,
+            Refusal::BadTree => 10,
+            Refusal::TooMany => 11,
+            Refusal::NoList => 12,
+            Refusal::NotLookup => 13,
+            Refusal::NoSuch => 14,
+        }
     }
 }
