@@ -6,16 +6,16 @@ use mathlib.Core.List.{List, [], ◌∷◌}
 use Prim.Native.Nat.{ℕ, suc, ◌+◌, ◌-◌, ◌*◌, ◌≤◌, ◌<◌, min}
 use native.Mathlib.Numerals.{add-one}
 use native.Mathlib.Omega.{arith}
-use borrow.Author.Tests.{lt-ltb, le-ltb, leb-true, leb-false, eq-eqb, ne_eqb, eqb-true, eqb-false}
+use borrow.Author.Tests.{lt-ltb, le-ltb, le-leb, leb-true, leb-false, eq-eqb, ne_eqb, eqb-true, eqb-false}
 use lib.Dec.{leb, ltb, eqb}
 use lib.ListN.{length, get_or, drop, length-drop, drop_of_length-le}
 use lib.Seq.{drop-cons}
 use Rattle.limits.specs.Limits.{integer_max}
 use Rattle.numbers.specs.Number.{digit, begins, ended, past_digits, digits, past_fraction, past_sign, exponent, value_from, integer_of, number_of}
-use Rattle.numbers.specs.Run.{held, leading, Past, Digits, DigitsOnly}
+use Rattle.numbers.specs.Run.{held, leading, Past, Digits}
 use Rattle.numbers.specs.declared.Run.{Run}
-use Rattle.numbers.specs.declared.Number.{Number}
-use Rattle.numbers.specs.declared.Number.TheVariants.{Float, Neither}
+use Rattle.std.specs.Prelude.{Some, None}
+use Rattle.numbers.specs.declared.Number.TheVariants.{Integer, Float}
 
 -- what a digit is
 pub digit_in : (b : ℕ) → digit b ≡ true → (48 ≤ b) × (b ≤ 57)
@@ -251,7 +251,7 @@ module _ (s : List ℕ) where
   unfolding digits
   digits_none e = rw e
 
-  pub number_none : begins s ≡ false → number_of s ≡ Neither
+  pub number_none : begins s ≡ false → number_of s ≡ None
   unfolding number_of
   number_none e = rw (digits_none e, e, number_of)
 
@@ -259,11 +259,11 @@ module _ (s : List ℕ) where
   unfolding number_of
   number_of_digits e f = rw (digits_both e true f, number_of)
 
-  pub number_float : begins s ≡ true → ended (past_digits s) ≡ false → exponent (past_fraction (past_digits s)) ≡ true → number_of s ≡ Float
+  pub number_float : begins s ≡ true → ended (past_digits s) ≡ false → exponent (past_fraction (past_digits s)) ≡ true → number_of s ≡ Some Float
   unfolding number_of
   number_float e f x = rw (digits_both e false f, e, x, number_of)
 
-  pub number_bad : begins s ≡ true → ended (past_digits s) ≡ false → exponent (past_fraction (past_digits s)) ≡ false → number_of s ≡ Neither
+  pub number_bad : begins s ≡ true → ended (past_digits s) ≡ false → exponent (past_fraction (past_digits s)) ≡ false → number_of s ≡ None
   unfolding number_of
   number_bad e f x = rw (digits_both e false f, e, x, number_of)
 
@@ -281,7 +281,7 @@ integer_held n = by (leb n integer_max) refl
 
 -- a spelling by the run of digits at its start
 module _ (s : List ℕ) (r : Run) (run : Digits s 0 r) where
-  pub run_neither : r.end ≡ 0 → Neither ≡ number_of s
+  pub run_neither : r.end ≡ 0 → None ≡ number_of s
   run_neither e = sym (number_none s (run_none s 0 r run (omega arith)))
 
   pub run_integer : (r.end ≡ 0 → ⊥) → r.end ≡ length s → integer_of r.value ≡ number_of s
@@ -295,20 +295,13 @@ module _ (s : List ℕ) (r : Run) (run : Digits s 0 r) where
     rest : (b : Bool) → exponent (drop at s) ≡ b → exponent (past_fraction (past_digits s)) ≡ b
     rest b e = ap (λ (l : List ℕ). exponent (past_fraction l)) (sym run.end.left) ∙ ap exponent (sym past.left) ∙ e
 
-    pub run_float : exponent (drop at s) ≡ true → Float ≡ number_of s
+    pub run_float : exponent (drop at s) ≡ true → Some Float ≡ number_of s
     run_float e = sym (number_float s (run_some s 0 r run (omega arith)) (run_part s 0 r run more) (rest true e))
 
-    pub run_bad : exponent (drop at s) ≡ false → Neither ≡ number_of s
+    pub run_bad : exponent (drop at s) ≡ false → None ≡ number_of s
     run_bad e = sym (number_bad s (run_some s 0 r run (omega arith)) (run_part s 0 r run more) (rest false e))
 
--- the cases of `DigitsOnly`
-pub digits_only_unsaid : (s : List ℕ) → DigitsOnly s Neither
-digits_only_unsaid s =
-    record {
-      integer = λ n e.
-          let no_way : ◌≡◌ {A = ℕ} 0 1 = cc in
-          absurd (omega arith);
-    }
-
-pub digits_only_said : (s : List ℕ) (r : Number) → r ≡ number_of s → DigitsOnly s r
-digits_only_said s r is = record { integer = λ n e. sym is ∙ e }
+  -- a value that was not held is the Integer's
+  pub run_value : (r.end ≡ 0 → ⊥) → r.end ≡ length s → r.value ≤ integer_max → number_of s ≡ Some (Integer r.value)
+  unfolding integer_of
+  run_value some all le = sym (run_integer some all) ∙ rw (le-leb r.value integer_max le, integer_of)

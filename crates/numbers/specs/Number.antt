@@ -1,8 +1,8 @@
 -- Which spellings are numbers (FORMAT §3). The last definition is the rule; those above it are its words.
-use Rattle.std.specs.Prelude.{ℕ, ◌+◌, ◌-◌, ◌*◌, Bool, true, false, ◌&&◌, ◌||◌, List, [], ◌∷◌, leb, eqb}
+use Rattle.std.specs.Prelude.{Option, Some, None, ℕ, ◌+◌, ◌-◌, ◌*◌, Bool, true, false, ◌&&◌, ◌||◌, List, [], ◌∷◌, leb, eqb}
 use Rattle.limits.specs.Limits.{integer_max}
 use Rattle.numbers.specs.declared.Number.{Number}
-use Rattle.numbers.specs.declared.Number.TheVariants.{Integer, Float, Neither}
+use Rattle.numbers.specs.declared.Number.TheVariants.{Integer, Float}
 
 -- 0 to 9
 unfoldable pub digit : ℕ → Bool
@@ -48,15 +48,15 @@ value_from n [] = n
 value_from n (b ∷ s) = value_from (n * 10 + (b - 48)) s
 
 -- an Integer, up to the largest
-unfoldable pub integer_of : ℕ → Number
-integer_of n = elim (leb n integer_max) [ true ↦ Integer n | false ↦ Neither ]
+unfoldable pub integer_of : ℕ → Option Number
+integer_of n = elim (leb n integer_max) [ true ↦ Some (Integer n) | false ↦ None ]
 
--- all digits: an Integer, or past the largest neither
+-- all digits: an Integer, or past the largest no number
 -- else at least one digit, an optional fraction and an optional exponent: a Float, which is not read further
--- else neither; so is an empty spelling
-unfoldable pub number_of : List ℕ → Number
+-- else no number; nor is an empty spelling
+unfoldable pub number_of : List ℕ → Option Number
 number_of s =
     elim (digits s) [
       | true ↦ integer_of (value_from 0 s)
-      | false ↦ elim (begins s && exponent (past_fraction (past_digits s))) [ true ↦ Float | false ↦ Neither ]
+      | false ↦ elim (begins s && exponent (past_fraction (past_digits s))) [ true ↦ Some Float | false ↦ None ]
     ]

@@ -1,9 +1,7 @@
 -- What the parts of the number rule's code promise each other, by places in the spelling. No entry's promise names this file.
 use Rattle.std.specs.Prelude.{◌≡◌, ℕ, ◌+◌, ◌≤◌, min, true, false, List, [], ◌∷◌, length, drop}
 use Rattle.limits.specs.Limits.{integer_max}
-use Rattle.numbers.specs.Number.{digit, past_digits, value_from, number_of}
-use Rattle.numbers.specs.declared.Number.{Number}
-use Rattle.numbers.specs.declared.Number.TheVariants.{Integer}
+use Rattle.numbers.specs.Number.{digit, past_digits, value_from}
 use Rattle.numbers.specs.declared.Run.{Run}
 
 -- where a value past the largest Integer is held
@@ -25,7 +23,3 @@ pub record Past (past : List ℕ → List ℕ) (s : List ℕ) (at r : ℕ) : Typ
 pub record Digits (s : List ℕ) (from : ℕ) (r : Run) : Type 0 where
   pub end : Past past_digits s from r.end
   pub value : r.value ≡ min (value_from 0 (leading (drop from s))) held
-
--- r is an Integer only where the spelling is that Integer
-pub record DigitsOnly (s : List ℕ) (r : Number) : Type 0 where
-  pub integer : (n : ℕ) → r ≡ Integer n → number_of s ≡ Integer n

@@ -2,18 +2,17 @@
 // docs/FORMAT.md has the rule; specs/ has it as a definition.
 #![tactic(auto)]
 
-ghost use Rattle.std.specs.Prelude.{◌≡◌, ◌+◌, ◌-◌, ◌*◌, ◌≤◌, min, length, drop};
+ghost use Rattle.std.specs.Prelude.{IfSome, ◌≡◌, ◌+◌, ◌-◌, ◌*◌, ◌≤◌, min, length, drop};
 ghost use Rattle.numbers.specs.Number.{digit as digit_of, digits as digits_of, past_fraction, past_sign, exponent, integer_of, number_of};
-ghost use Rattle.numbers.specs.Run.{held, Digits, Past, DigitsOnly};
+ghost use Rattle.numbers.specs.Run.{held, Digits, Past};
 
 use limits::INTEGER_MAX;
 
-// What a spelling is.
+// A number, as it is spelled: an Integer with its value, or a Float, which is not read further.
 #[derive(Clone, Copy)]
 pub enum Number {
     Integer(u64),
     Float,
-    Neither,
 }
 
 // A run of digits: where it ends, and its value. A value past the largest Integer is held at one more than that.
@@ -24,10 +23,11 @@ pub struct Run {
 }
 
 // Tells if a byte is a digit.
+#[tactic(auto, unfolding(crate::specs::Number::digit))]
 fn digit(b: u8) -> bool
     ensures { result ≡ digit_of b }
 {
-    if 48 <= b { b <= 57 } else { false }
+    b'0' <= b && b <= b'9'
 }
 
 // Answers the value with one more digit after those that spelled `value`.
@@ -138,49 +138,51 @@ fn exponent_at(s: &[u8], at: usize) -> bool
 }
 
 // Answers what digits only are: an Integer, if the value was not held.
-fn integer(value: u64) -> Number
+#[tactic(auto, unfolding(crate::specs::Number::integer_of))]
+fn integer(value: u64) -> Option<Number>
     ensures { result ≡ integer_of value }
 {
     if value <= INTEGER_MAX {
-        Number::Integer(value)
+        Some(Number::Integer(value))
     } else {
-        Number::Neither
+        None
     }
 }
 
-// Answers what a spelling is: an Integer with its value, a Float, or neither.
-pub fn number_of(s: &[u8]) -> Number
+// Answers the number that a spelling is, if it is one.
+pub fn number_of(s: &[u8]) -> Option<Number>
     ensures { result ≡ number_of s.now }
 {
     let run = digits(s, 0);
     let end = run.end;
-    let value = run.value;
     if end == 0 {
-        return Number::Neither;
+        return None;
     }
     if end == s.len() {
-        return integer(value);
+        return integer(run.value);
     }
     let after = fraction(s, end);
     if exponent_at(s, after) {
-        Number::Float
+        Some(Number::Float)
     } else {
-        Number::Neither
+        None
     }
 }
 
-// Answers an Integer with its value, where the spelling is digits only and one of those; `Neither` says nothing.
-pub fn digits_only(s: &[u8]) -> Number
-    ensures { DigitsOnly s.now result }
+// Answers the value of a spelling that is digits only and an Integer; `None` says nothing.
+pub fn digits_only(s: &[u8]) -> Option<u64>
+    ensures { IfSome result (λ n. number_of s.now ≡ Some (Number.Integer n)) }
 {
     let run = digits(s, 0);
-    let end = run.end;
-    let value = run.value;
-    if end == 0 {
-        return Number::Neither;
+    if run.end == 0 {
+        return None;
     }
-    if end != s.len() {
-        return Number::Neither;
+    if run.end != s.len() {
+        return None;
     }
-    integer(value)
+    if run.value <= INTEGER_MAX {
+        Some(run.value)
+    } else {
+        None
+    }
 }

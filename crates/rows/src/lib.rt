@@ -37,8 +37,7 @@ pub fn only_whole(rows: &[u64]) -> bool
 pub fn capacity(rows: &[u64]) -> usize
     ensures { result ≡ capacity_of rows.now }
 {
-    let whole = count(rows);
-    if whole <= ROWS_MAX { whole } else { ROWS_MAX }
+    count(rows).min(ROWS_MAX)
 }
 
 // Reads row n.
@@ -69,9 +68,5 @@ pub fn write_row(rows: &mut [u64], n: usize, row: Row)
 pub fn clear(rows: &mut [u64])
     ensures { rows.new ≡ replicate (length rows.old) 0 }
 {
-    let mut i = 0;
-    while i < rows.len() {
-        rows[i] = 0;
-        i += 1;
-    }
+    rows.fill(0);
 }

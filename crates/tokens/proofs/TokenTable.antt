@@ -1,4 +1,4 @@
--- Laws of the table of tokens: a token that is there and one that is not, the turns of the table's check, and that the bytes of a token lie in the text.
+-- Laws of the table of tokens: a token that is not there is none, the turns of the table's check, and that the bytes of a token lie in the text.
 -- Assumes nothing.
 use mathlib.Core.Path.{◌≡◌, refl, sym, ap, ◌∙◌}
 use mathlib.Core.Bool.{Bool, true, false, ◌&&◌}
@@ -10,23 +10,16 @@ use borrow.Author.Tests.{lt-ltb, le-ltb, leb-true, eq-eqb, ne_eqb}
 use lib.ListN.{length, get_or, take, drop}
 use Rattle.limits.specs.Limits.{text_max, tokens_max}
 use Rattle.tokens.specs.Token.{token_count, token_at, kind_at, known, fits, check_from, check_table, span_of, span_at, spelled}
+use Rattle.std.specs.Prelude.{Ok, Err}
+use Rattle.refusals.specs.Refusal.{refused}
 use Rattle.refusals.specs.declared.Refusal.TheVariants.{TooLong, BadTable}
 use Rattle.tokens.specs.declared.table.Token.{Token}
 use Rattle.tokens.specs.declared.table.Span.{Span}
-use Rattle.tokens.specs.declared.table.Checked.TheVariants.{Good, Refused}
 
 module _ (ts : List ℕ) (n : ℕ) where
-  pub there : n < token_count ts → token_at ts n ≡ record { kind = get_or ts (n * 3) 0; start = get_or ts (n * 3 + 1) 0; length = get_or ts (n * 3 + 2) 0 }
-  unfolding token_at
-  there lt = rw (lt-ltb n (token_count ts) lt, token_at)
-
   pub missing : token_count ts ≤ n → token_at ts n ≡ record { kind = 0; start = 0; length = 0 }
   unfolding token_at
   missing le = rw (le-ltb n (token_count ts) le, token_at)
-
-  pub kind_there : n < token_count ts → kind_at ts n ≡ get_or ts (n * 3) 0
-  unfolding kind_at
-  kind_there lt = ap (λ (t : Token). t.kind) (there lt)
 
   pub kind_missing : token_count ts ≤ n → kind_at ts n ≡ 0
   unfolding kind_at
@@ -54,37 +47,19 @@ module _ (text ts : List ℕ) (n : ℕ) (at : Checking text ts n) where
       let turn : check_from text ts n (token_count ts - n) ≡ check_from text ts (n + 1) (token_count ts - (n + 1)) = rw (one_left lt, e, check_from) in
       record { within = omega arith; same = sym turn ∙ at.same }
 
-  pub check_off : n < token_count ts → (known (kind_at ts n) && fits text (token_at ts n)) ≡ false → Refused BadTable n ≡ check_from text ts 0 (token_count ts)
+  pub check_off : n < token_count ts → (known (kind_at ts n) && fits text (token_at ts n)) ≡ false → Err (refused BadTable n) ≡ check_from text ts 0 (token_count ts)
   unfolding check_from
   check_off lt e =
-      let turn : check_from text ts n (token_count ts - n) ≡ Refused BadTable n = rw (one_left lt, e, check_from) in
+      let turn : check_from text ts n (token_count ts - n) ≡ Err (refused BadTable n) = rw (one_left lt, e, check_from) in
       sym turn ∙ at.same
 
-  pub check_ends : token_count ts ≤ n → Good (token_count ts) ≡ check_from text ts 0 (token_count ts)
+  pub check_ends : token_count ts ≤ n → Ok (token_count ts) ≡ check_from text ts 0 (token_count ts)
   unfolding check_from
   check_ends le =
       let none : token_count ts - n ≡ 0 = omega arith in
       let last : n ≡ token_count ts = omega (arith, at.within) in
-      let end : check_from text ts n (token_count ts - n) ≡ Good n = rw none in
-      ap Good (sym last) ∙ sym end ∙ at.same
-
--- the order of the check
-module _ (text ts : List ℕ) where
-  pub long_text : text_max < length text → check_table text ts ≡ Refused TooLong 0
-  unfolding check_table
-  long_text lt = rw (lt-ltb text_max (length text) lt, check_table)
-
-  pub long_table : length text ≤ text_max → tokens_max < token_count ts → check_table text ts ≡ Refused TooLong 0
-  unfolding check_table
-  long_table le lt = rw (le-ltb text_max (length text) le, lt-ltb tokens_max (token_count ts) lt, check_table)
-
-  pub ragged : length text ≤ text_max → token_count ts ≤ tokens_max → (length ts % 3 ≡ 0 → ⊥) → check_table text ts ≡ Refused BadTable (token_count ts)
-  unfolding check_table
-  ragged le le' ne = rw (le-ltb text_max (length text) le, le-ltb tokens_max (token_count ts) le', ne_eqb (length ts % 3) 0 ne, check_table)
-
-  pub in_turn : length text ≤ text_max → token_count ts ≤ tokens_max → length ts % 3 ≡ 0 → check_table text ts ≡ check_from text ts 0 (token_count ts)
-  unfolding check_table
-  in_turn le le' e = rw (le-ltb text_max (length text) le, le-ltb tokens_max (token_count ts) le', eq-eqb (length ts % 3) 0 e, check_table)
+      let end : check_from text ts n (token_count ts - n) ≡ Ok n = rw none in
+      ap Ok (sym last) ∙ sym end ∙ at.same
 
 -- a part of the text
 abbrev In : List ℕ → Span → Type 0
@@ -111,16 +86,6 @@ module _ (text : List ℕ) (t : Token) where
 pub span_in : (text ts : List ℕ) (n : ℕ) → In text (span_at text ts n)
 unfolding span_at
 span_in text ts n = span_of_in text (token_at ts n)
-
--- where they lie, by the token
-module _ (text ts : List ℕ) (n : ℕ) (t : Token) (is : t ≡ token_at ts n) where
-  pub span_there : fits text t ≡ true → record { start = t.start; length = t.length } ≡ span_at text ts n
-  unfolding span_at
-  span_there e = sym (span_on text t e) ∙ ap (span_of text) is
-
-  pub span_none : fits text t ≡ false → record { start = 0; length = 0 } ≡ span_at text ts n
-  unfolding span_at
-  span_none e = sym (span_off text t e) ∙ ap (span_of text) is
 
 -- and those bytes, as the part of the text from there
 pub part_there : (text ts : List ℕ) (n : ℕ) (s : Span) →

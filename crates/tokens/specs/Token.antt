@@ -1,12 +1,12 @@
 -- The table of tokens, its check, and the bytes of a token (FORMAT §2).
-use Rattle.std.specs.Prelude.{ℕ, zero, suc, ◌+◌, ◌*◌, ◌/◌, ◌%◌, Bool, true, false, ◌&&◌, ◌||◌, List, length, get_or, take, drop, leb, ltb, eqb}
+use Rattle.std.specs.Prelude.{Result, Ok, Err, ℕ, zero, suc, ◌+◌, ◌*◌, ◌/◌, ◌%◌, Bool, true, false, ◌&&◌, ◌||◌, List, length, get_or, take, drop, leb, ltb, eqb}
 use Rattle.limits.specs.Limits.{text_max, tokens_max}
 use Rattle.tokens.specs.Kind as kind
+use Rattle.refusals.specs.Refusal.{refused}
 use Rattle.refusals.specs.declared.Refusal.TheVariants.{TooLong, BadTable}
+use Rattle.refusals.specs.declared.Refused.{Refused}
 use Rattle.tokens.specs.declared.table.Token.{Token}
 use Rattle.tokens.specs.declared.table.Span.{Span}
-use Rattle.tokens.specs.declared.table.Checked.{Checked}
-use Rattle.tokens.specs.declared.table.Checked.TheVariants.{Good, Refused}
 
 -- numbers per token
 abbrev pub token_width : ℕ
@@ -37,24 +37,24 @@ unfoldable pub fits : List ℕ → Token → Bool
 fits text t = leb (t.start + t.length) (length text)
 
 -- the table's check, from token n on, with so many tokens left
-unfoldable pub check_from : List ℕ → List ℕ → ℕ → ℕ → Checked
-check_from text ts n zero = Good n
+unfoldable pub check_from : List ℕ → List ℕ → ℕ → ℕ → Result ℕ Refused
+check_from text ts n zero = Ok n
 check_from text ts n (suc left) =
     elim (known (kind_at ts n) && fits text (token_at ts n)) [
       | true ↦ check_from text ts (n + 1) left
-      | false ↦ Refused BadTable n
+      | false ↦ Err (refused BadTable n)
     ]
 
 -- how many tokens a good table has, or the refusal: a text or a table that is too long, then a length that is no multiple of a token's, then the
 -- first token of unknown kind or with a span outside the text
-unfoldable pub check_table : List ℕ → List ℕ → Checked
+unfoldable pub check_table : List ℕ → List ℕ → Result ℕ Refused
 check_table text ts =
     elim (ltb text_max (length text) || ltb tokens_max (token_count ts)) [
-      | true ↦ Refused TooLong 0
+      | true ↦ Err (refused TooLong 0)
       | false ↦
           elim (eqb (length ts % token_width) 0) [
             | true ↦ check_from text ts 0 (token_count ts)
-            | false ↦ Refused BadTable (token_count ts)
+            | false ↦ Err (refused BadTable (token_count ts))
           ]
     ]
 

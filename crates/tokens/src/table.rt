@@ -4,7 +4,7 @@ ghost use Rattle.tokens.specs.Token.{token_count, token_at, kind_at, known as kn
 
 use crate::kind;
 use limits::{TEXT_MAX, TOKENS_MAX};
-use refusals::Refusal;
+use refusals::{Refusal, Refused};
 
 // Numbers per token.
 pub const WIDTH: usize = 3;
@@ -24,13 +24,6 @@ pub struct Span {
     pub length: usize,
 }
 
-// What the check finds: how many tokens there are, or a refusal and its place.
-#[derive(Clone, Copy)]
-pub enum Checked {
-    Good(usize),
-    Refused(Refusal, usize),
-}
-
 // Counts the whole tokens.
 pub fn count(tokens: &[u32]) -> usize
     ensures { result ≡ token_count tokens.now }
@@ -39,18 +32,16 @@ pub fn count(tokens: &[u32]) -> usize
 }
 
 // Reads token n, or none.
+#[tactic(auto, unfolding(crate::specs::Token::token_at))]
 fn token_at(tokens: &[u32], n: usize) -> Token
     ensures { result ≡ token_at tokens.now n }
 {
     if n < tokens.len() / WIDTH {
         let at = n * WIDTH;
-        let kind = tokens[at];
-        let start = tokens[at + 1];
-        let length = tokens[at + 2];
         Token {
-            kind,
-            start,
-            length,
+            kind: tokens[at],
+            start: tokens[at + 1],
+            length: tokens[at + 2],
         }
     } else {
         Token {
@@ -62,6 +53,7 @@ fn token_at(tokens: &[u32], n: usize) -> Token
 }
 
 // Answers the kind of token n, and 0 where there is none: all that a reader looks at on its way.
+#[tactic(auto, unfolding(crate::specs::Token::kind_at, crate::specs::Token::token_at))]
 pub fn kind_at(tokens: &[u32], n: usize) -> u32
     ensures { result ≡ kind_at tokens.now n }
 {
@@ -73,75 +65,72 @@ pub fn kind_at(tokens: &[u32], n: usize) -> u32
 }
 
 // Tells if a kind is known.
+#[tactic(auto, unfolding(crate::specs::Token::known))]
 fn known(kind: u32) -> bool
     ensures { result ≡ known_of kind }
 {
-    if 1 <= kind { kind <= kind::LAST } else { false }
+    1 <= kind && kind <= kind::LAST
 }
 
 // Tells if a token's span lies in the text. The sum of two 32-bit numbers cannot wrap here.
+#[tactic(auto, unfolding(crate::specs::Token::fits))]
 fn span_fits(text: &[u8], t: Token) -> bool
     ensures { result ≡ fits text.now t }
 {
-    let start = t.start as usize;
-    let length = t.length as usize;
-    start + length <= text.len()
+    t.start as usize + t.length as usize <= text.len()
 }
 
 // Tells if token n is of a known kind, with its span in the text.
+#[tactic(auto, unfolding(crate::specs::Token::kind_at))]
 fn token_good(text: &[u8], tokens: &[u32], n: usize) -> bool
     ensures { result ≡ (known_of (kind_at tokens.now n) && fits text.now (token_at tokens.now n)) }
 {
     let t = token_at(tokens, n);
-    let kind = t.kind;
-    if known(kind) {
-        span_fits(text, t)
-    } else {
-        false
-    }
+    known(t.kind) && span_fits(text, t)
 }
 
-// Checks each token in turn, up to the first that is not good.
-fn check_tokens(text: &[u8], tokens: &[u32]) -> Checked
+// Checks each token in turn, up to the first that is not good; answers how many there are.
+fn check_tokens(text: &[u8], tokens: &[u32]) -> Result<usize, Refused>
     ensures { result ≡ check_from text.now tokens.now 0 (token_count tokens.now) }
 {
     let whole = tokens.len() / WIDTH;
-    let mut n = 0;
-    while n < whole {
+    for n in 0..whole {
         if !token_good(text, tokens, n) {
-            return Checked::Refused(Refusal::BadTable, n);
+            return Err(Refusal::BadTable.at(n));
         }
-        n += 1;
     }
-    Checked::Good(whole)
+    Ok(whole)
 }
 
-// Checks the lengths first, then each token in turn.
-pub fn check_table(text: &[u8], tokens: &[u32]) -> Checked
+// Checks the lengths first, then each token in turn; answers how many tokens there are.
+#[tactic(auto, unfolding(crate::specs::Token::check_table))]
+pub fn check_table(text: &[u8], tokens: &[u32]) -> Result<usize, Refused>
     ensures { result ≡ check_table text.now tokens.now }
 {
     let whole = tokens.len() / WIDTH;
     if TEXT_MAX < text.len() {
-        return Checked::Refused(Refusal::TooLong, 0);
+        return Err(Refusal::TooLong.at(0));
     }
     if TOKENS_MAX < whole {
-        return Checked::Refused(Refusal::TooLong, 0);
+        return Err(Refusal::TooLong.at(0));
     }
     if tokens.len() % WIDTH != 0 {
-        return Checked::Refused(Refusal::BadTable, whole);
+        return Err(Refusal::BadTable.at(whole));
     }
     check_tokens(text, tokens)
 }
 
 // Finds where the bytes of token n lie in the text.
+#[tactic(auto, unfolding(crate::specs::Token::span_at, crate::specs::Token::span_of))]
 pub fn span_at(text: &[u8], tokens: &[u32], n: usize) -> Span
     ensures { result ≡ span_at text.now tokens.now n }
 {
     let t = token_at(tokens, n);
-    let start = t.start as usize;
-    let length = t.length as usize;
     if span_fits(text, t) {
-        Span { start, length }
+        Span {
+            start: t.start as usize,
+            length: t.length as usize,
+        }
     } else {
         Span {
             start: 0, // of the text
@@ -156,7 +145,6 @@ pub fn spelled<'a>(text: &'a [u8], tokens: &[u32], n: usize) -> &'a [u8]
     ensures place { (result.ref_ptr.0 ≡ text.entry.ref_ptr.0) × (result.ref_ptr.1 ≡ (span_at text.now tokens.now n).start + text.entry.ref_ptr.1) }
 {
     let span = span_at(text, tokens, n);
-    let start = span.start;
-    let end = start + span.length;
-    &text[start..end]
+    let end = span.start + span.length;
+    &text[span.start..end]
 }

@@ -1,15 +1,7 @@
--- `numbers::digits_only` meets its contract: the run of digits at the start is all of the spelling, or nothing is said.
-use Rattle.std.proofs.Common.{◌∙◌}
-use Rattle.numbers.proofs.Spelling.{run_integer, digits_only_unsaid, digits_only_said}
+-- `numbers::digits_only` meets its contract: the run of digits at the start is all of the spelling and was not held, or nothing is said.
+use Rattle.numbers.proofs.Spelling.{run_value}
 use Rattle.numbers.proofs.digits_only.Goals as goal
 
-pub returns-then-end-eq0 : goal.returns-then-end-eq0
-returns-then-end-eq0 c = digits_only_unsaid _
-
-pub returns-then-end-s : goal.returns-then-end-s
-returns-then-end-s c = digits_only_unsaid _
-
-pub returns : goal.returns
-returns c =
-    let digits = c.digits-run in
-    digits_only_said _ _ (c.integer.ensures ∙ run_integer _ _ digits.ensures c.if-end-eq0.false c.if-end-s.false)
+pub returns-then-run-le-INTEGER_MAX : goal.returns-then-run-le-INTEGER_MAX
+returns-then-run-le-INTEGER_MAX c =
+    run_value _ _ c.digits-run.ensures c.if-run-eq0.false c.if-run-s.false c.if-run-le-INTEGER_MAX.true
