@@ -1,2 +1,2 @@
--- Laws of the number rule that the functions' proofs cite.
+-- The laws of this crate.
 pub mod Spelling

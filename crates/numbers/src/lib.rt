@@ -2,9 +2,9 @@
 // docs/FORMAT.md has the rule; specs/ has it as a definition.
 #![tactic(auto)]
 
-ghost use Rattle.std.specs.Prelude.{IfSome, ◌≡◌, ◌+◌, ◌-◌, ◌*◌, ◌≤◌, min, length, drop};
-ghost use Rattle.numbers.specs.Number.{digit as digit_of, digits as digits_of, past_fraction, past_sign, exponent, integer_of, number_of};
-ghost use Rattle.numbers.specs.Run.{held, Digits, Past};
+ghost use Rattle.std.specs.Prelude.{IfSome, ◌≡◌, ◌-◌, ◌+◌, ◌*◌, ◌≤◌, min};
+ghost use Rattle.numbers.specs.Number.{digit as digit_of, begins, digits, past_digits, past_fraction, past_sign, exponent, value_from, integer_of, number_of};
+ghost use Rattle.numbers.specs.Run.{held, leading};
 
 use limits::INTEGER_MAX;
 
@@ -15,11 +15,11 @@ pub enum Number {
     Float,
 }
 
-// A run of digits: where it ends, and its value. A value past the largest Integer is held at one more than that.
+// The digits that a spelling begins with: their value, and what follows them. A value past the largest Integer is held at one more than that.
 #[derive(Clone, Copy)]
-pub struct Run {
-    pub end: usize,
+pub struct Run<'a> {
     pub value: u64,
+    pub rest: &'a [u8],
 }
 
 // Tells if a byte is a digit.
@@ -50,90 +50,73 @@ fn grown(value: u64, b: u8) -> u64
     }
 }
 
-// Reads the digits from `from` on, perhaps none.
-fn digits(s: &[u8], from: usize) -> Run
-    requires { from ≤ length s.now }
-    ensures { Digits s.now from result }
+// Reads the digits that a spelling begins with, perhaps none.
+fn digits(s: &[u8]) -> Run
+    ensures value { result.value ≡ min (value_from 0 (leading s.now)) held }
+    ensures rest { result.rest.now ≡ past_digits s.now }
 {
-    let mut end = from;
     let mut value = 0;
-    while end < s.len() {
-        let b = s[end];
-        if !digit(b) {
-            return Run { end, value };
+    let mut rest = s;
+    while let [b, after @ ..] = rest {
+        if !digit(*b) {
+            break;
         }
-        value = grown(value, b);
-        end += 1;
+        value = grown(value, *b);
+        rest = after;
     }
-    Run { end, value }
+    Run { value, rest }
+}
+
+// Tells if a spelling begins with a digit.
+#[tactic(auto, unfolding(crate::specs::Number::begins))]
+fn begins(s: &[u8]) -> bool
+    ensures { result ≡ begins s.now }
+{
+    match s {
+        [b, ..] => digit(*b),
+        [] => false,
+    }
 }
 
 // Goes past an optional `.` with any digits.
-fn fraction(s: &[u8], at: usize) -> usize
-    requires { at ≤ length s.now }
-    ensures { Past past_fraction s.now at result }
+#[tactic(auto, unfolding(crate::specs::Number::past_fraction))]
+fn past_fraction(s: &[u8]) -> &[u8]
+    ensures { result.now ≡ past_fraction s.now }
 {
-    if at < s.len() {
-        let b = s[at];
-        if b == b'.' {
-            let after = at + 1;
-            let run = digits(s, after);
-            run.end
-        } else {
-            at
-        }
-    } else {
-        at
+    match s {
+        [b'.', after @ ..] => digits(after).rest,
+        _ => s,
     }
 }
 
 // Goes past an optional sign.
-fn sign(s: &[u8], at: usize) -> usize
-    requires { at ≤ length s.now }
-    ensures { Past past_sign s.now at result }
+#[tactic(auto, unfolding(crate::specs::Number::past_sign))]
+fn past_sign(s: &[u8]) -> &[u8]
+    ensures { result.now ≡ past_sign s.now }
 {
-    if at < s.len() {
-        let b = s[at];
-        if b == b'+' {
-            at + 1
-        } else if b == b'-' {
-            at + 1
-        } else {
-            at
-        }
-    } else {
-        at
+    match s {
+        [b'+' | b'-', after @ ..] => after,
+        _ => s,
     }
 }
 
-// Tells if the rest is an optional sign and digits.
-fn power(s: &[u8], at: usize) -> bool
-    requires { at ≤ length s.now }
-    ensures { result ≡ digits_of (past_sign (drop at s.now)) }
+// Tells if this is digits, at least one, and nothing else.
+#[tactic(auto, unfolding(crate::specs::Number::digits, crate::specs::Number::ended))]
+fn only_digits(s: &[u8]) -> bool
+    ensures { result ≡ digits s.now }
 {
-    let from = sign(s, at);
-    let run = digits(s, from);
-    let end = run.end;
-    if from < end { end == s.len() } else { false }
+    begins(s) && digits(s).rest.is_empty()
 }
 
-// Tells if the rest is nothing, or an exponent.
-fn exponent_at(s: &[u8], at: usize) -> bool
-    requires { at ≤ length s.now }
-    ensures { result ≡ exponent (drop at s.now) }
+// Tells if this is nothing, or an exponent.
+#[tactic(auto, unfolding(crate::specs::Number::exponent))]
+fn exponent(s: &[u8]) -> bool
+    ensures { result ≡ exponent s.now }
 {
-    if s.len() <= at {
-        return true;
-    }
-    let b = s[at];
-    if b == b'e' {
-        let after = at + 1;
-        power(s, after)
-    } else if b == b'E' {
-        let after = at + 1;
-        power(s, after)
-    } else {
-        false
+    match s {
+        [] => true,
+        [b'e' | b'E', after @ ..] => only_digits(past_sign(after)),
+        _ => false,
     }
 }
 
@@ -150,19 +133,18 @@ fn integer(value: u64) -> Option<Number>
 }
 
 // Answers the number that a spelling is, if it is one.
+#[tactic(auto, unfolding(crate::specs::Number::number_of, crate::specs::Number::digits, crate::specs::Number::ended))]
 pub fn number_of(s: &[u8]) -> Option<Number>
     ensures { result ≡ number_of s.now }
 {
-    let run = digits(s, 0);
-    let end = run.end;
-    if end == 0 {
+    if !begins(s) {
         return None;
     }
-    if end == s.len() {
+    let run = digits(s);
+    if run.rest.is_empty() {
         return integer(run.value);
     }
-    let after = fraction(s, end);
-    if exponent_at(s, after) {
+    if exponent(past_fraction(run.rest)) {
         Some(Number::Float)
     } else {
         None
@@ -173,11 +155,11 @@ pub fn number_of(s: &[u8]) -> Option<Number>
 pub fn digits_only(s: &[u8]) -> Option<u64>
     ensures { IfSome result (λ n. number_of s.now ≡ Some (Number.Integer n)) }
 {
-    let run = digits(s, 0);
-    if run.end == 0 {
+    if !begins(s) {
         return None;
     }
-    if run.end != s.len() {
+    let run = digits(s);
+    if !run.rest.is_empty() {
         return None;
     }
     if run.value <= INTEGER_MAX {

@@ -1,29 +1,32 @@
 -- `numbers::digits` meets its contract: each turn passes one digit, and the run ends at a byte that is none or with the spelling.
-use Rattle.std.proofs.Common.{sym, ◌∙◌, rules}
-use Rattle.numbers.proofs.Spelling.{digit_in, run_begins, run_on, run_off, run_out}
+use Rattle.std.proofs.Common.{sym, ◌∙◌, arith}
+use Rattle.numbers.proofs.Spelling.{digit_in, run_begins, turn_on, turn_off, run_out}
 use Rattle.numbers.proofs.digits.Goals as goal
+use Rattle.numbers.proofs.digits.Goals.{in_default, in-len1-up+then-not-digit}
 
-pub loop-end-init : goal.loop-end-init
-loop-end-init c = run_begins _ _ (search rules)
-
-pub returns-then-not-digit : goal.returns-then-not-digit
-returns-then-not-digit c =
-    let loop = c.loop-end in
-    let loop-test = c.loop-end-test in
-    let digit = c.digit in
-    run_off loop-test.true (sym digit.ensures ∙ c.if-not-digit.true) loop.invariant
+pub loop-rest-init : goal.loop-rest-init
+loop-rest-init c = run_begins _
 
 pub grown-value-requires : goal.grown-value-requires
-grown-value-requires c =
-    let digit = c.digit in
-    digit_in _ (sym digit.ensures ∙ c.if-not-digit.false)
+grown-value-requires c = digit_in _ (sym c.digit.ensures ∙ c.if-not-digit.false)
 
-pub loop-end-preserved : goal.loop-end-preserved
-loop-end-preserved c =
-    let loop = c.loop-end in
-    let loop-test = c.loop-end-test in
-    let digit = c.digit in
-    rw c.grown-value.ensures (run_on loop-test.true (sym digit.ensures ∙ c.if-not-digit.false) loop.invariant)
+pub loop-rest-preserved : goal.loop-rest-preserved
+loop-rest-preserved c =
+    rw c.grown-value.ensures
+    (turn_on _ _ _ c.in-len1-up.len_at_least (sym c.digit.ensures ∙ c.if-not-digit.false) c.loop-rest.invariant)
 
-pub returns : goal.returns
-returns c = run_out c.loop-end-test.false c.loop-end.invariant
+pub returns-clause-value : goal.returns-clause-value
+returns-clause-value c =
+    elim c.if-rest-lt1.branch [
+      | in_default w ↦ (run_out _ _ _ (omega arith) c.loop-rest.invariant).0
+      | in-len1-up+then-not-digit w ↦
+          (turn_off _ _ _ w.in-len1-up.len_at_least (sym w.digit.ensures ∙ w.if-not-digit.true) c.loop-rest.invariant).0
+    ]
+
+pub returns-clause-rest : goal.returns-clause-rest
+returns-clause-rest c =
+    elim c.if-rest-lt1.branch [
+      | in_default w ↦ (run_out _ _ _ (omega arith) c.loop-rest.invariant).1
+      | in-len1-up+then-not-digit w ↦
+          (turn_off _ _ _ w.in-len1-up.len_at_least (sym w.digit.ensures ∙ w.if-not-digit.true) c.loop-rest.invariant).1
+    ]
