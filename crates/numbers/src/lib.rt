@@ -35,19 +35,10 @@ fn grown(value: u64, b: u8) -> u64
     requires { (48 ≤ b) × (b ≤ 57) }
     ensures { result ≡ min (value * 10 + (b - 48)) held }
 {
-    let unit = (b - 48) as u64;
-    if value < INTEGER_MAX / 10 {
-        return value * 10 + unit;
-    }
-    if INTEGER_MAX / 10 < value {
-        return INTEGER_MAX + 1;
-    }
-    let more = value * 10 + unit;
-    if more <= INTEGER_MAX {
-        more
-    } else {
-        INTEGER_MAX + 1
-    }
+    value
+        .saturating_mul(10)
+        .saturating_add(u64::from(b - b'0'))
+        .min(INTEGER_MAX + 1)
 }
 
 // Reads the digits that a spelling begins with, perhaps none.
