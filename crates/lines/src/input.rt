@@ -1,90 +1,58 @@
 // Reading lines from a file or from a terminal, however many there are.
-ghost use Rattle.std.specs.Prelude.{◌≡◌, length};
-
-use crate::scan::{byte_or_zero, one_more};
 use std::io;
 use std::io::Read;
+use std::ops::Range;
 
-// Which bytes of the chunk are still unread.
-#[derive(Clone, Copy)]
-pub struct Unread {
-    pub at: usize,
-    pub end: usize,
+// How many bytes are read at once.
+const CHUNK: usize = 4096;
+
+// Reads lines. Of the bytes that were read at once, `unread` are still to come.
+#[derive(Drop)]
+pub struct LineReader<R> {
+    reader: R,
+    chunk: [u8; CHUNK],
+    unread: Range<usize>,
+    ended: bool,
 }
 
-// What reading a byte comes to: the byte and what is unread after it, or the end of the input.
-#[derive(Clone, Copy)]
-pub enum NextByte {
-    Byte(u8, Unread),
-    End,
-}
-
-// A line that was read: how long it is, what is unread after it, and whether the input ended there.
-#[derive(Clone, Copy)]
-pub struct Line {
-    pub length: usize,
-    pub unread: Unread,
-    pub ended: bool,
-}
-
-// Reads the next byte, from the chunk or from what is read into it next.
-fn next_byte(reader: &mut impl Read, chunk: &mut [u8], unread: Unread) -> io::Result<NextByte> {
-    let at = unread.at;
-    let end = unread.end;
-    if at < end {
-        let after = Unread { at: at + 1, end };
-        return Ok(NextByte::Byte(byte_or_zero(chunk, at), after));
-    }
-    let n = reader.read(chunk)?;
-    if n == 0 {
-        return Ok(NextByte::End);
-    }
-    Ok(NextByte::Byte(byte_or_zero(chunk, 0), Unread { at: 1, end: n }))
-}
-
-// Writes a byte where there is a place for it.
-fn store(line: &mut [u8], i: usize, b: u8)
-    ensures { length line.new ≡ length line.old }
-{
-    if i < line.len() {
-        line[i] = b;
-    }
-}
-
-// Reads the next line, as much of it as there are places for. If a read fails, what was read of the line is left out.
-pub fn read_line(
-    reader: &mut impl Read,
-    chunk: &mut [u8],
-    line: &mut [u8],
-    unread: Unread,
-) -> io::Result<Line> {
-    let mut rest = unread;
-    let mut n = 0;
-    let mut left: u64 = 18446744073709551615;
-    while 0 < left {
-        let next = next_byte(reader, chunk, rest)?;
-        let NextByte::Byte(b, after) = next else {
-            return Ok(Line {
-                length: n,
-                unread: rest,
-                ended: true,
-            });
-        };
-        rest = after;
-        if b == b'\n' {
-            return Ok(Line {
-                length: n,
-                unread: rest,
-                ended: false,
-            });
+impl<R: Read> LineReader<R> {
+    // Starts with the first line.
+    pub fn new(reader: R) -> LineReader<R> {
+        LineReader {
+            reader,
+            chunk: [0; CHUNK],
+            unread: 0..0,
+            ended: false,
         }
-        store(line, n, b);
-        n = one_more(n);
-        left -= 1;
     }
-    Ok(Line {
-        length: n,
-        unread: rest,
-        ended: true,
-    })
+
+    // Reads the next byte, from the chunk or from what is read into it next.
+    fn next_byte(&mut self) -> io::Result<Option<u8>> {
+        if self.unread.is_empty() {
+            self.unread = 0..self.reader.read(&mut self.chunk)?;
+        }
+        Ok(self.unread.next().and_then(|i| self.chunk.get(i).copied()))
+    }
+
+    // Reads the next line, as much of it as there are places for; answers how long it is. If a read fails, what was read of the line is left out.
+    pub fn read_line(&mut self, line: &mut [u8]) -> io::Result<Option<usize>> {
+        if self.ended {
+            return Ok(None);
+        }
+        let mut length = 0usize;
+        for _ in 0..u64::MAX {
+            match self.next_byte()? {
+                Some(b'\n') => return Ok(Some(length)),
+                Some(b) => {
+                    if length < line.len() {
+                        line[length] = b;
+                    }
+                    length = length.saturating_add(1);
+                }
+                None => break,
+            }
+        }
+        self.ended = true;
+        Ok(Some(length))
+    }
 }

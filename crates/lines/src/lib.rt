@@ -1,5 +1,4 @@
-// The text form of the cases that `show` reads: lines, the words of a line, and words as tokens or as numbers. `replay` finds its lines and keeps its numbers
-// in the same way.
+// The text form of the cases that `show` reads: lines, the words of a line, and words as tokens or as numbers.
 #![tactic(auto)]
 
 pub mod input;

@@ -1,6 +1,6 @@
--- Each turn ends past the word that it took, so what is left of the line falls.
-use Rattle.std.proofs.Common.{◌-◌, suc, length}
+-- What is written lies in the places.
+use Rattle.std.proofs.Common.{◌≤◌, length}
 use Rattle.lines.proofs.numbers.numbers_of.Given as goal
 
-abbrev pub decreases-loop-at : goal.decreases-loop-at
-decreases-loop-at l = suc (length l.line) - l.at
+abbrev pub invariant-loop-word : goal.invariant-loop-word
+invariant-loop-word g l = l.n ≤ length l.out
