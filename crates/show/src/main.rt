@@ -4,8 +4,8 @@
 
 use cases::{print_wrong, show_case};
 use drawing::out::print;
-use lines::input::{Unread, read_line};
-use lines::scan::{byte_or_zero, word_start};
+use lines::input::LineReader;
+use lines::scan::Words;
 use std::env::FillError;
 use std::fmt::Display;
 use std::io::{Read, Write};
@@ -17,12 +17,11 @@ mod cases;
 
 // Copies a line, and prints below it what there is to say of it if it is a case. Blanks before a comment are passed over, as before a case.
 fn show_line(out: &mut impl Write, line: &[u8], number: u64) -> io::Result<()> {
-    let start = word_start(line, 0);
-    if start == line.len() {
+    let Some(first) = Words::of(line).next() else {
         return Ok(());
-    }
+    };
     print(out, line)?;
-    if byte_or_zero(line, start) != b'#' {
+    if !first.bytes.starts_with(b"#") {
         print(out, b"\n")?;
         show_case(out, line, number)?;
     }
@@ -31,63 +30,48 @@ fn show_line(out: &mut impl Write, line: &[u8], number: u64) -> io::Result<()> {
 
 // Shows a line of so many bytes, of which `line` has those that there are places for.
 fn show_read(out: &mut impl Write, line: &[u8], length: usize, number: u64) -> io::Result<()> {
-    if length <= line.len() {
-        return show_line(out, &line[0..length], number);
+    if let Some(line) = line.get(..length) {
+        return show_line(out, line, number);
     }
     print_wrong(out, number, b"longer than 65536 bytes, and left out\n")?;
     print(out, b"\n")
 }
 
-// How the showing ended: with the last line, or because a read or a write failed.
-#[derive(Clone, Copy)]
-enum End {
-    Shown,
+// Why the showing ended before the last line.
+enum ShowError {
     Unreadable(io::Error),
     Unwritable(io::Error),
 }
 
 // Shows every line. Where a read or a write fails it returns at once; a line that was cut short is left out.
 fn show_all(
-    reader: &mut impl Read,
+    lines: &mut LineReader<impl Read>,
     out: &mut impl Write,
-    chunk: &mut [u8],
     line: &mut [u8],
-) -> End {
-    let mut unread = Unread { at: 0, end: 0 };
-    let mut number: u64 = 0;
-    while number < 18446744073709551615 {
-        number += 1;
-        let read = match read_line(reader, chunk, line, unread) {
-            Ok(read) => read,
-            Err(why) => return End::Unreadable(why),
+) -> Result<(), ShowError> {
+    for number in 1..=u64::MAX {
+        let Some(length) = lines.read_line(line).map_err(ShowError::Unreadable)? else {
+            break;
         };
-        if let Err(why) = show_read(out, line, read.length, number) {
-            return End::Unwritable(why);
-        }
-        if read.ended {
-            return End::Shown;
-        }
-        unread = read.unread;
+        show_read(out, line, length, number).map_err(ShowError::Unwritable)?;
     }
-    End::Shown
+    Ok(())
 }
 
 // Shows every line, and says on standard error if a read or a write failed.
-fn show(rt: &(impl Print + Eprint), reader: &mut impl Read, name: &str) -> ExitCode {
-    let mut chunk = [0u8; 4096];
+fn show(rt: &(impl Print + Eprint), reader: impl Read + Drop, name: &str) -> ExitCode {
     let mut line = [0u8; 65536];
-    let mut out = io::writer(rt);
-    match show_all(reader, &mut out, &mut chunk, &mut line) {
-        End::Shown => ExitCode::SUCCESS,
-        End::Unreadable(why) => fail(rt, name, why),
-        End::Unwritable(why) => fail(rt, "standard output", why),
+    match show_all(&mut LineReader::new(reader), &mut io::writer(rt), &mut line) {
+        Ok(()) => ExitCode::SUCCESS,
+        Err(ShowError::Unreadable(why)) => fail(rt, name, why),
+        Err(ShowError::Unwritable(why)) => fail(rt, "standard output", why),
     }
 }
 
 // Shows a file.
 fn show_file(rt: &(impl Files + Print + Eprint), path: &str) -> ExitCode {
     match fs::open(rt, path) {
-        Ok(mut file) => show(rt, &mut file, path),
+        Ok(file) => show(rt, file, path),
         Err(why) => fail(rt, path, why),
     }
 }
@@ -104,7 +88,7 @@ fn show_path(rt: &(impl Files + Print + Eprint), path: &[u8]) -> ExitCode {
 fn show_named(rt: &(impl Env + Files + Print + Eprint)) -> ExitCode {
     let mut path = [0u8; 4096];
     match rt.arg(1, &mut path) {
-        Ok(n) => show_path(rt, &path[0..n]),
+        Ok(n) => show_path(rt, &path[..n]),
         Err(_) => fail(rt, "the name of the file", "File name too long"),
     }
 }
@@ -112,10 +96,7 @@ fn show_named(rt: &(impl Env + Files + Print + Eprint)) -> ExitCode {
 // Tells if there is an argument i. Its bytes are not looked at.
 fn has_word(rt: &impl Env, i: usize) -> bool {
     let mut none = [0u8; 0];
-    match rt.arg(i, &mut none) {
-        Err(FillError::NotPresent) => false,
-        _ => true,
-    }
+    !matches!(rt.arg(i, &mut none), Err(FillError::NotPresent))
 }
 
 // Writes a message to standard error.
@@ -131,7 +112,7 @@ fn fail(rt: &impl Eprint, what: &str, why: impl Display + Drop) -> ExitCode {
 
 fn main(rt: HostRuntime) -> ExitCode {
     if !has_word(&rt, 1) {
-        return show(&rt, &mut rt.stdin(), "standard input");
+        return show(&rt, rt.stdin(), "standard input");
     }
     if has_word(&rt, 2) {
         warn(
