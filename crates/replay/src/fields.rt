@@ -1,128 +1,98 @@
 // The stored lists as numbers: a line is fields with one space between them, and a field is a decimal number or one letter.
-ghost use Rattle.std.specs.Prelude.{◌≡◌, ◌+◌, ◌^◌, ◌<◌, ◌≤◌, length};
+ghost use Rattle.std.specs.Prelude.{◌≤◌, ◌<◌};
 
-use lines::numbers::{field, store};
+use rows::WIDTH;
+use tokens::table::WIDTH as TOKEN_WIDTH;
 
-// The fields read so far, and what the bytes of the next one have come to.
+// Bytes of a text, and rows of a predicate.
+pub const TEXT: usize = 1024;
+
+pub const ROWS: usize = 256;
+
+// The fields of a line that are still to be read; nothing after the last one.
 #[derive(Clone, Copy)]
-pub struct FieldsSoFar {
-    pub count: usize,
-    pub value: u64,
+pub struct Fields<'a> {
+    rest: Option<&'a [u8]>,
 }
 
-// Answers a number after one more digit; what does not fit wraps.
-fn with_digit(value: u64, b: u8) -> u64 {
-    let tens = value % 1844674407370955162 * 10;
-    std::num::wrapping_add_u64(tens, (b % 16) as u64)
-}
-
-// Answers a field after one more byte: a digit goes on with a number, and any other byte stands for itself.
+// Answers a field after one more byte: a digit goes on with a number, where what does not fit wraps, and any other byte stands for itself.
 fn grown(value: u64, b: u8) -> u64 {
-    if b < b'0' {
-        b as u64
-    } else if b <= b'9' {
-        with_digit(value, b)
-    } else {
-        b as u64
+    match b {
+        b'0'..=b'9' => (value % 1844674407370955162 * 10).wrapping_add(u64::from(b - b'0')),
+        _ => u64::from(b),
     }
 }
 
-// Reads one more byte of the line; writes the field that it ends.
-fn step(out: &mut [u64], before: FieldsSoFar, b: u8) -> FieldsSoFar
-    requires { before.count + 1 < 2 ^ 64 }
-    ensures { (result.count ≤ before.count + 1) × (length out.new ≡ length out.old) }
-{
-    let n = before.count;
-    let value = before.value;
-    if b == b' ' {
-        store(out, n, value);
-        FieldsSoFar {
-            count: n + 1,
-            value: 0,
+impl<'a> Fields<'a> {
+    // Answers all fields of a line.
+    pub fn of(line: &'a [u8]) -> Fields<'a> {
+        Fields { rest: Some(line) }
+    }
+
+    // Reads the next field.
+    pub fn next(&mut self) -> Option<u64> {
+        let rest = self.rest?;
+        let mut parts = rest.splitn(2, |b| *b == b' ');
+        let field = parts.next()?;
+        self.rest = parts.next();
+        Some(field.iter().fold(0, |value, b| grown(value, *b)))
+    }
+
+    // Reads the next field, or 0 where there is none.
+    pub fn number(&mut self) -> u64 {
+        self.next().unwrap_or(0)
+    }
+
+    // Reads a count of at most `most`.
+    pub fn count(&mut self, most: usize) -> usize
+        ensures { result ≤ most }
+    {
+        (self.number() as usize).min(most)
+    }
+
+    // Reads a count of parts, and the numbers of these, of which each part has `width`, as many parts as there are places for; answers what it wrote.
+    fn list<'b, T: Copy + Drop, F: Fn(u64) -> T>(
+        &mut self,
+        out: &'b mut [T],
+        width: usize,
+        of: F,
+    ) -> &'b [T]
+        requires width { 0 < width }
+        requires of { F.IsAlwaysCallable of }
+    {
+        let count = self.count(out.len() / width) * width;
+        let part = &mut out[..count];
+        for x in part.iter_mut() {
+            *x = of(self.number());
         }
-    } else {
-        FieldsSoFar {
-            count: n,
-            value: grown(value, b),
-        }
+        part
     }
-}
 
-// Reads the fields of a line: writes as many as there are places for, and answers how many there are.
-pub fn fields_of(s: &[u8], out: &mut [u64]) -> usize
-    ensures { length out.new ≡ length out.old }
-{
-    let mut so_far = FieldsSoFar { count: 0, value: 0 };
-    let mut i = 0;
-    while i < s.len() {
-        so_far = step(out, so_far, s[i]);
-        i += 1;
+    // Reads a text.
+    pub fn text<'b>(&mut self, out: &'b mut [u8]) -> &'b [u8] {
+        self.list(out, 1, |n| (n % 256) as u8)
     }
-    let n = so_far.count;
-    store(out, n, so_far.value);
-    n + 1
-}
 
-// Answers field `from` as a count of at most `most`.
-pub fn count_at(fields: &[u64], from: usize, most: usize) -> usize
-    ensures { result ≤ most }
-{
-    let n = field(fields, from, 0) as usize;
-    if n <= most { n } else { most }
-}
-
-// Writes the fields from `from` on, as bytes.
-pub fn write_bytes(fields: &[u64], from: usize, out: &mut [u8])
-    ensures { length out.new ≡ length out.old }
-{
-    let mut i = 0;
-    while i < out.len() {
-        out[i] = (field(fields, from, i) % 256) as u8;
-        i += 1;
+    // Reads tokens.
+    pub fn tokens<'b>(&mut self, out: &'b mut [u32]) -> &'b [u32] {
+        self.list(out, TOKEN_WIDTH, |n| (n % 4294967296) as u32)
     }
-}
 
-// Writes the fields from `from` on, as they are.
-pub fn write_u64s(fields: &[u64], from: usize, out: &mut [u64])
-    ensures { length out.new ≡ length out.old }
-{
-    let mut i = 0;
-    while i < out.len() {
-        out[i] = field(fields, from, i);
-        i += 1;
+    // Reads rows.
+    pub fn rows<'b>(&mut self, out: &'b mut [u64]) -> &'b [u64] {
+        self.list(out, WIDTH, |n| n)
     }
-}
 
-// Writes the text and the rows of a predicate, which stand from field 1 on, each after its count; answers the field after them.
-pub fn write_predicate(fields: &[u64], text: &mut [u8], rows: &mut [u64]) -> usize
-    ensures { result ≡ length text.old + 3 + length rows.old }
-{
-    write_bytes(fields, 2, text);
-    let from = text.len() + 3;
-    write_u64s(fields, from, rows);
-    from + rows.len()
-}
-
-// Tells if these are the fields from `from` on.
-pub fn equals_u64s(a: &[u64], fields: &[u64], from: usize) -> bool {
-    let mut i = 0;
-    while i < a.len() {
-        if a[i] != field(fields, from, i) {
-            return false;
-        }
-        i += 1;
+    // Tells if the next fields are these numbers; reads them as far as they are.
+    pub fn are<T: Copy + Drop>(&mut self, numbers: &[T]) -> bool
+    where
+        u64: From<T>,
+    {
+        numbers.iter().all(|x| u64::from(*x) == self.number())
     }
-    true
-}
 
-// Tells if every number is `x`.
-pub fn all_equal(a: &[u64], x: u64) -> bool {
-    let mut i = 0;
-    while i < a.len() {
-        if a[i] != x {
-            return false;
-        }
-        i += 1;
+    // Tells if every field was read.
+    pub fn at_end(&self) -> bool {
+        self.rest.is_none()
     }
-    true
 }

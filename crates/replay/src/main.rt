@@ -2,9 +2,7 @@
 // the line of the first that it does.
 #![tactic(auto)]
 
-use fields::fields_of;
-use lines::numbers::field;
-use lines::scan::find_byte;
+use fields::Fields;
 use std::io::Read;
 use std::process::ExitCode;
 use std::rt::Files;
@@ -29,69 +27,64 @@ const PARSE: u64 = b'P' as u64;
 
 const SPLIT: u64 = b'S' as u64;
 
-// The lines so far, those that differ, and the first of these.
+// The lines so far, how many of them differ, and the first that does.
 #[derive(Clone, Copy)]
 pub struct Tally {
     pub lines: u64,
     pub wrong: u64,
-    pub first: u64,
+    pub first: Option<u64>,
+    ghost at_most: { wrong ≤ lines },
 }
 
-// Tells if the library answers what the fields of a line say.
-fn answered_as_stored(fields: &[u64]) -> bool {
-    match field(fields, 0, 0) {
-        LOOK => looking::look_case(fields),
-        PARSE => reading::parse_case(fields),
-        SPLIT => splitting::split_case(fields),
-        _ => false,
-    }
-}
-
-// Answers the tally after one more line.
-fn counted(t: Tally, right: bool) -> Tally
-    requires { (t.lines + 1 < 2 ^ 64) × (t.wrong ≤ t.lines) }
-    ensures { (result.lines ≤ t.lines + 1) × (result.wrong ≤ result.lines) }
-{
-    let lines = t.lines + 1;
-    if right {
-        return Tally {
+impl Tally {
+    // Counts one more line.
+    fn count(&mut self, right: bool)
+        ensures { self.new.lines ≤ self.old.lines + 1 }
+    {
+        let Tally {
             lines,
-            wrong: t.wrong,
-            first: t.first,
+            wrong,
+            first,
+        } = *self;
+        let number = lines.saturating_add(1);
+        *self = if right {
+            Tally {
+                lines: number,
+                wrong,
+                first,
+            }
+        } else {
+            Tally {
+                lines: number,
+                wrong: wrong.saturating_add(1),
+                first: first.or(Some(number)),
+            }
         };
     }
-    let first = if t.wrong == 0 { lines } else { t.first };
-    let wrong = t.wrong + 1;
-    Tally {
-        lines,
-        wrong,
-        first,
-    }
 }
 
-// Tells if the library answers what this line says. A line with more fields than there are places for counts as wrong.
+// Tells if the library answers what this line says. A line of more than FIELDS fields counts as wrong.
 fn line_right(line: &[u8]) -> bool {
-    let mut fields = [0u64; FIELDS];
-    let n = fields_of(line, &mut fields);
-    if n <= FIELDS {
-        answered_as_stored(&fields[0..n])
-    } else {
-        false
-    }
+    let spaces = line.iter().filter(|b| **b == b' ').count();
+    let mut fields = Fields::of(line);
+    spaces < FIELDS
+        && match fields.number() {
+            LOOK => looking::look_case(&mut fields),
+            PARSE => reading::parse_case(&mut fields),
+            SPLIT => splitting::split_case(&mut fields),
+            _ => false,
+        }
 }
 
 // Replays every line of a list.
-fn replayed(s: &[u8]) -> Tally {
+fn replayed(list: &[u8]) -> Tally {
     let mut t = Tally {
         lines: 0,
         wrong: 0,
-        first: 0,
+        first: None,
     };
-    let mut at = 0;
-    while at < s.len() {
-        let end = find_byte(s, at, b'\n');
-        t = counted(t, line_right(&s[at..end]));
-        at = end + 1;
+    for line in list.split_inclusive(|b| *b == b'\n') {
+        t.count(line_right(line.strip_suffix(b"\n").unwrap_or(line)));
     }
     t
 }
@@ -99,8 +92,8 @@ fn replayed(s: &[u8]) -> Tally {
 // Prints what came of a list.
 fn report(rt: &impl Print, name: &str, t: Tally) -> io::Result<()> {
     print!(rt; "{name}: {} cases, {} differ", t.lines, t.wrong)?;
-    if 0 < t.wrong {
-        print!(rt; ", the first in line {}", t.first)?;
+    if let Some(line) = t.first {
+        print!(rt; ", the first in line {line}")?;
     }
     println!(rt)
 }
