@@ -1,166 +1,85 @@
 // The clauses of a predicate, each with the values that it looks for if it is a lookup.
 use crate::labels::print_value;
 use crate::names::print_refusal;
-use crate::out::{print, print_count, print_decimal};
+use crate::out::print_count;
 use limits::{CLAUSES_MAX, LITERALS_MAX};
 use lookup::{FoundValue, LookedUp};
 use splitter::Listed;
 use std::io;
 use std::io::Write;
-use widths::u32_to_usize;
 
-// Answers number i of a list, and 0 where there is none.
-fn number_at(list: &[u32], i: usize) -> usize {
-    if i < list.len() {
-        u32_to_usize(list[i])
-    } else {
-        0
-    }
+// A predicate: its rows, and the text that its Strings are parts of.
+#[derive(Clone, Copy)]
+struct Predicate<'a> {
+    text: &'a [u8],
+    rows: &'a [u64],
 }
 
-// Prints a literal: an atom's row, plain or negated, and before it an OR if it is not the first.
-fn print_literal(out: &mut impl Write, literal: usize, first: bool) -> io::Result<()> {
-    if !first {
-        print(out, b" OR ")?;
-    }
-    if literal % 2 != 0 {
-        print(out, b"NOT ")?;
-    }
-    print(out, b"r")?;
-    print_decimal(out, (literal / 2) as u64)
-}
-
-// Prints the literals from one place up to another.
-fn print_clause(out: &mut impl Write, literals: &[u32], from: usize, end: usize) -> io::Result<()> {
-    let mut i = from;
-    while i < end {
-        print_literal(out, number_at(literals, i), i == from)?;
-        i += 1;
-    }
-    Ok(())
-}
-
-// Prints value i of a lookup.
-fn print_value_at(
-    out: &mut impl Write,
-    text: &[u8],
-    rows: &[u64],
-    clause: usize,
-    i: usize,
-) -> io::Result<()> {
-    if 0 < i {
-        print(out, b", ")?;
-    }
-    match lookup::value_at(text, rows, clause, i) {
-        FoundValue::Found(v) => print_value(out, text, v),
-        FoundValue::Refused(_, _) => print(out, b"?"),
-    }
-}
-
-fn print_values(
-    out: &mut impl Write,
-    text: &[u8],
-    rows: &[u64],
-    clause: usize,
-    count: usize,
-) -> io::Result<()> {
-    let mut i = 0;
-    while i < count {
-        print_value_at(out, text, rows, clause, i)?;
-        i += 1;
-    }
-    Ok(())
-}
-
-fn print_column(out: &mut impl Write, column: usize) -> io::Result<()> {
-    print(out, b"    lookup on column ")?;
-    print_decimal(out, column as u64)?;
-    print(out, b": ")
-}
-
-fn print_if_none(out: &mut impl Write, count: usize) -> io::Result<()> {
-    if count == 0 {
-        print(out, b"no values")?;
-    }
-    Ok(())
-}
-
-fn print_counts(out: &mut impl Write, count: usize, total: usize) -> io::Result<()> {
-    print(out, b"  ")?;
-    print_count(out, count, b"clause")?;
-    print(out, b", ")?;
-    print_count(out, total, b"literal")
-}
-
-// Prints what a clause looks for.
-fn print_lookup(out: &mut impl Write, text: &[u8], rows: &[u64], clause: usize) -> io::Result<()> {
-    match lookup::lookup(text, rows, clause) {
-        LookedUp::OnColumn(column, count) => {
-            print_column(out, column)?;
-            print_if_none(out, count)?;
-            print_values(out, text, rows, clause, count)?;
-            print(out, b"\n")
+impl Predicate<'_> {
+    // Prints the values that a clause looks for.
+    fn print_values(self, out: &mut impl Write, clause: usize, count: usize) -> io::Result<()> {
+        if count == 0 {
+            write!(out, "no values")?;
         }
-        LookedUp::Refused(_, _) => print(out, b"    no lookup\n"),
-    }
-}
-
-// Prints clause k on its line.
-fn print_numbered_clause(
-    out: &mut impl Write,
-    literals: &[u32],
-    from: usize,
-    end: usize,
-    k: usize,
-) -> io::Result<()> {
-    print(out, b"  clause ")?;
-    print_decimal(out, k as u64)?;
-    print(out, b": ")?;
-    print_clause(out, literals, from, end)?;
-    print(out, b"\n")
-}
-
-// Prints each clause, and below it what it looks for.
-fn print_clauses(
-    out: &mut impl Write,
-    text: &[u8],
-    rows: &[u64],
-    literals: &[u32],
-    ends: &[u32],
-    count: usize,
-) -> io::Result<()> {
-    let mut from = 0;
-    let mut k = 0;
-    while k < count {
-        let end = number_at(ends, k);
-        print_numbered_clause(out, literals, from, end, k)?;
-        print_lookup(out, text, rows, k)?;
-        from = end;
-        k += 1;
-    }
-    Ok(())
-}
-
-// Splits a predicate, with two lists to write to, and prints its clauses or the refusal.
-fn print_split(
-    out: &mut impl Write,
-    text: &[u8],
-    rows: &[u64],
-    line: u64,
-    literals: &mut [u32],
-    ends: &mut [u32],
-) -> io::Result<()> {
-    match splitter::split(text, rows, literals, ends) {
-        Listed::Clauses(count, total) => {
-            print_counts(out, count, total)?;
-            print(out, b"\n")?;
-            print_clauses(out, text, rows, literals, ends, count)
+        for i in 0..count {
+            if 0 < i {
+                write!(out, ", ")?;
+            }
+            match lookup::value_at(self.text, self.rows, clause, i) {
+                FoundValue::Found(v) => print_value(out, self.text, v)?,
+                FoundValue::Refused(_, _) => write!(out, "?")?,
+            }
         }
-        Listed::Refused(why, at) => print_refusal(out, line, why, at),
+        Ok(())
+    }
+
+    // Prints what a clause looks for.
+    fn print_lookup(self, out: &mut impl Write, clause: usize) -> io::Result<()> {
+        match lookup::lookup(self.text, self.rows, clause) {
+            LookedUp::OnColumn(column, count) => {
+                write!(out, "    lookup on column {column}: ")?;
+                self.print_values(out, clause, count)?;
+                writeln!(out)
+            }
+            LookedUp::Refused(_, _) => writeln!(out, "    no lookup"),
+        }
+    }
+
+    // Prints each clause on a line, and below it what it looks for.
+    fn print_clauses(self, out: &mut impl Write, literals: &[u32], ends: &[u32]) -> io::Result<()> {
+        let mut from = 0;
+        for (k, end) in ends.iter().enumerate() {
+            let to = *end as usize;
+            write!(out, "  clause {k}: ")?;
+            print_literals(out, literals.get(from..to).unwrap_or(&[]))?;
+            self.print_lookup(out, k)?;
+            from = to;
+        }
+        Ok(())
     }
 }
 
-// Prints the clauses of these rows, which stand in this line.
+// Prints the literals of a clause, each an atom's row, plain or negated, with an OR between them.
+fn print_literals(out: &mut impl Write, literals: &[u32]) -> io::Result<()> {
+    for (i, literal) in literals.iter().enumerate() {
+        let or = if i == 0 { "" } else { " OR " };
+        let not = if literal % 2 == 0 { "" } else { "NOT " };
+        let row = literal / 2;
+        write!(out, "{or}{not}r{row}")?;
+    }
+    writeln!(out)
+}
+
+// Prints how many clauses and literals there are.
+fn print_counts(out: &mut impl Write, clauses: usize, literals: usize) -> io::Result<()> {
+    write!(out, "  ")?;
+    print_count(out, clauses, "clause")?;
+    write!(out, ", ")?;
+    print_count(out, literals, "literal")?;
+    writeln!(out)
+}
+
+// Prints the clauses of these rows, which stand in this line, or the refusal to split them.
 pub fn print_predicate(
     out: &mut impl Write,
     text: &[u8],
@@ -169,5 +88,12 @@ pub fn print_predicate(
 ) -> io::Result<()> {
     let mut literals = [0u32; LITERALS_MAX as usize];
     let mut ends = [0u32; CLAUSES_MAX as usize];
-    print_split(out, text, rows, line, &mut literals, &mut ends)
+    match splitter::split(text, rows, &mut literals, &mut ends) {
+        Listed::Clauses(count, total) => {
+            print_counts(out, count, total)?;
+            let ends = ends.get(..count).unwrap_or(&[]);
+            Predicate { text, rows }.print_clauses(out, &literals, ends)
+        }
+        Listed::Refused(why, at) => print_refusal(out, line, why.at(at)),
+    }
 }
