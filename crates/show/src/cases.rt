@@ -2,7 +2,7 @@
 use drawing::clauses::print_predicate;
 use drawing::names::print_refusal;
 use drawing::out::{print, print_blanks_for, print_count, print_line_number, print_quoted};
-use drawing::tree::{Family, draw};
+use drawing::tree::{Drawing, Family};
 use limits::{ROWS_MAX, TOKENS_MAX};
 use lines::numbers::{NumberError, WrongWord, numbers_of};
 use lines::scan::Words;
@@ -41,21 +41,15 @@ fn print_refused(
         print_blanks_for(out, case.words.before(word))?;
         print(out, b"^\n")?;
     }
-    print_refusal(out, case.number, refused.why, refused.place)
+    print_refusal(out, case.number, refused)
 }
 
 // Prints how many rows there are, and draws their tree.
-fn draw_counted(
-    out: &mut impl Write,
-    family: Family,
-    text: &[u8],
-    tokens: &[u32],
-    rows: &[u64],
-) -> io::Result<()> {
-    print(out, b"  ")?;
-    print_count(out, rows::count(rows), b"row")?;
-    print(out, b"\n")?;
-    draw(out, family, text, tokens, rows)
+fn draw_counted(out: &mut impl Write, drawing: Drawing) -> io::Result<()> {
+    write!(out, "  ")?;
+    print_count(out, rows::count(drawing.rows), "row")?;
+    writeln!(out)?;
+    drawing.draw(out)
 }
 
 // Parses a token table, and prints what comes of it.
@@ -68,8 +62,12 @@ fn show_parse(
     let mut rows = [0u64; ROWS_MAX * WIDTH];
     match parser::parse(case.text, tokens, &mut rows) {
         Parsed::Rows(n) => {
-            let end = n.min(ROWS_MAX) * WIDTH;
-            draw_counted(out, Family::Syntax, case.text, tokens, &rows[..end])
+            let drawing = Drawing {
+                family: Family::Syntax { tokens },
+                text: case.text,
+                rows: &rows[..n.min(ROWS_MAX) * WIDTH],
+            };
+            draw_counted(out, drawing)
         }
         Parsed::Refused(why, place) => print_refused(out, case, words_each, why.at(place)),
     }
@@ -79,7 +77,7 @@ fn show_parse(
 fn print_doubt(out: &mut impl Write, case: Case) -> io::Result<()> {
     if let Some(word) = first_doubt(case.words) {
         print_line_number(out, case.number)?;
-        print_quoted(out, word, 0, word.len())?;
+        print_quoted(out, word)?;
         print(
             out,
             b" is one name here; blanks part words and signs, and a String holds none\n",
@@ -103,10 +101,15 @@ pub fn print_wrong(out: &mut impl Write, number: u64, what: &[u8]) -> io::Result
 }
 
 // Checks a predicate, and prints its tree and its clauses or the refusal.
-fn show_predicate(out: &mut impl Write, case: Case, rows: &[u64]) -> io::Result<()> {
+fn show_predicate<'a>(out: &mut impl Write, case: Case<'a>, rows: &'a [u64]) -> io::Result<()> {
     match predicate::check(case.text, rows) {
         Checked::Root(_) => {
-            draw_counted(out, Family::Predicate, case.text, &[], rows)?;
+            let drawing = Drawing {
+                family: Family::Predicate,
+                text: case.text,
+                rows,
+            };
+            draw_counted(out, drawing)?;
             print_predicate(out, case.text, rows, case.number)
         }
         Checked::Refused(why, place) => print_refused(out, case, WIDTH, why.at(place)),
@@ -125,7 +128,7 @@ fn print_wrong_word(
         NumberError::TooLarge => write!(out, "too large for {bits} bits: ")?,
         NumberError::NotNumber => write!(out, "not a number: ")?,
     }
-    print_quoted(out, wrong.word, 0, wrong.word.len())?;
+    print_quoted(out, wrong.word)?;
     print(out, b"\n")
 }
 
