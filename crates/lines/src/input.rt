@@ -44,8 +44,8 @@ impl<R: Read> LineReader<R> {
             match self.next_byte()? {
                 Some(b'\n') => return Ok(Some(length)),
                 Some(b) => {
-                    if length < line.len() {
-                        line[length] = b;
+                    if let Some(place) = line.get_mut(length) {
+                        *place = b;
                     }
                     length = length.saturating_add(1);
                 }

@@ -33,9 +33,7 @@ fn number_of_digits(word: &[u8], radix: u64) -> Result<u64, NumberError> {
     let mut number = Some(0u64);
     for b in word {
         let d = digit(*b, radix).ok_or(NumberError::NotNumber)?;
-        number = number
-            .and_then(|n| n.checked_mul(radix))
-            .and_then(|n| n.checked_add(d));
+        number = number.and_then(|n| n.checked_mul(radix)?.checked_add(d));
     }
     number.ok_or(NumberError::TooLarge)
 }
@@ -76,8 +74,8 @@ pub fn numbers_of<'a, 'b, T: TryFrom<u64, Error: Drop> + Copy>(
             word: word.bytes,
             why,
         })?;
-        if n < out.len() {
-            out[n] = number;
+        if let Some(place) = out.get_mut(n) {
+            *place = number;
             n += 1;
         }
     }

@@ -1,9 +1,11 @@
 // Where the words of a line lie: a word is what stands between blanks.
-ghost use Rattle.std.specs.Prelude.{◌-◌, ◌≤◌, length};
+ghost use Rattle.std.specs.Prelude.{◌≡◌, ◌↔◌, ◌⊎◌, IsTrue, ◌-◌, ◌≤◌, length};
 ghost use Rattle.std.specs.Iterator.{at_most};
 
 // Tells if a byte separates words.
-fn is_blank(b: u8) -> bool {
+fn is_blank(b: u8) -> bool
+    ensures { IsTrue result ↔ (b ≡ 32) ⊎ (b ≡ 9) ⊎ (b ≡ 13) }
+{
     matches!(b, b' ' | b'\t' | b'\r')
 }
 
@@ -53,10 +55,8 @@ impl<'a> Iterator for Words<'a> {
         let line = self.line;
         let start = self.at + line[self.at..].iter().position(|b| !is_blank(*b))?;
         let (before, from_word) = line.split_at(start);
-        let length = match from_word.iter().skip(1).position(|b| is_blank(*b)) {
-            Some(n) => n + 1,
-            None => from_word.len(),
-        };
+        let ends = from_word.iter().position(|b| is_blank(*b));
+        let length = ends.unwrap_or(from_word.len());
         self.at = start + length;
         Some(Word {
             before,

@@ -12,7 +12,7 @@ fn low_32_bits(x: usize) -> u32 {
 // Answers the token of a word. The quotes of a String stand outside its span.
 fn token_of(word: Word) -> Token {
     let kind = kind_of(word.bytes);
-    let quote = if kind == kind::STRING { 1 } else { 0 };
+    let quote = usize::from(kind == kind::STRING);
     Token {
         kind,
         start: low_32_bits(word.before.len() + quote),
