@@ -20,28 +20,10 @@ const TOKENS: usize = TOKENS_MAX + 1;
 
 const ROWS: usize = ROWS_MAX + 1;
 
-// The number of a line, the text that its case is over, and the words that its tokens or rows are typed with.
-#[derive(Clone, Copy)]
-struct Case<'a> {
-    number: u64,
-    text: &'a [u8],
-    words: Words<'a>,
-}
-
-// Prints a refusal, with a caret below the first word of its token or row, each of which is so many words; or right after the last word where there are
-// fewer. The quotes of a String are part of its word. What is too long has nothing to point at.
-fn print_refused(
-    out: &mut impl Write,
-    case: Case,
-    words_each: usize,
-    refused: Refused,
-) -> io::Result<()> {
-    if refused.why != Refusal::TooLong {
-        let word = refused.place.saturating_mul(words_each);
-        print_blanks_for(out, case.words.before(word))?;
-        print(out, b"^\n")?;
-    }
-    print_refusal(out, case.number, refused)
+// Prints what a line has wrong.
+pub fn print_wrong(out: &mut impl Write, number: u64, what: &[u8]) -> io::Result<()> {
+    print_line_number(out, number)?;
+    print(out, what)
 }
 
 // Prints how many rows there are, and draws their tree.
@@ -52,148 +34,157 @@ fn draw_counted(out: &mut impl Write, drawing: Drawing) -> io::Result<()> {
     drawing.draw(out)
 }
 
-// Parses a token table, and prints what comes of it.
-fn show_parse(
-    out: &mut impl Write,
-    case: Case,
-    words_each: usize,
-    tokens: &[u32],
-) -> io::Result<()> {
-    let mut rows = [0u64; ROWS_MAX * WIDTH];
-    match parser::parse(case.text, tokens, &mut rows) {
-        Parsed::Rows(n) => {
-            let drawing = Drawing {
-                family: Family::Syntax { tokens },
-                text: case.text,
-                rows: &rows[..n.min(ROWS_MAX) * WIDTH],
-            };
-            draw_counted(out, drawing)
-        }
-        Parsed::Refused(why, place) => print_refused(out, case, words_each, why.at(place)),
-    }
+// The case of a line: the number of the line, the text, and the words that tokens or rows are typed with.
+#[derive(Clone, Copy)]
+struct Case<'a> {
+    number: u64,
+    text: &'a [u8],
+    words: Words<'a>,
 }
 
-// Prints of the first name that holds a sign or a quote that it is a name.
-fn print_doubt(out: &mut impl Write, case: Case) -> io::Result<()> {
-    if let Some(word) = first_doubt(case.words) {
-        print_line_number(out, case.number)?;
+impl<'a> Case<'a> {
+    // Prints a refusal, with a caret below the first word of its token or row, each of which is so many words; or right after the last word where there are
+    // fewer. The quotes of a String are part of its word. What is too long has nothing to point at.
+    fn print_refused(
+        self,
+        out: &mut impl Write,
+        words_each: usize,
+        refused: Refused,
+    ) -> io::Result<()> {
+        if refused.why != Refusal::TooLong {
+            let word = refused.place.saturating_mul(words_each);
+            print_blanks_for(out, self.words.before(word))?;
+            print(out, b"^\n")?;
+        }
+        print_refusal(out, self.number, refused)
+    }
+
+    // Prints of a word among the numbers that it cannot be taken, and why. A number has so many bits at most.
+    fn print_wrong_word(self, out: &mut impl Write, wrong: WrongWord, bits: u32) -> io::Result<()> {
+        print_line_number(out, self.number)?;
+        match wrong.why {
+            NumberError::TooLarge => write!(out, "too large for {bits} bits: ")?,
+            NumberError::NotNumber => print(out, b"not a number: ")?,
+        }
+        print_quoted(out, wrong.word)?;
+        print(out, b"\n")
+    }
+
+    // Prints of the first name that holds a sign or a quote that it is a name.
+    fn print_doubt(self, out: &mut impl Write) -> io::Result<()> {
+        let Some(word) = first_doubt(self.words) else {
+            return Ok(());
+        };
+        print_line_number(out, self.number)?;
         print_quoted(out, word)?;
         print(
             out,
             b" is one name here; blanks part words and signs, and a String holds none\n",
-        )?;
+        )
     }
-    Ok(())
-}
 
-// Shows the words as an expression.
-fn parse_case(out: &mut impl Write, case: Case) -> io::Result<()> {
-    let mut table = [0u32; TOKENS * TOKEN_WIDTH];
-    let tokens = tokens_of(case.words, &mut table);
-    show_parse(out, case, 1, tokens)?;
-    print_doubt(out, case)
-}
-
-// Prints what a line has wrong.
-pub fn print_wrong(out: &mut impl Write, number: u64, what: &[u8]) -> io::Result<()> {
-    print_line_number(out, number)?;
-    print(out, what)
-}
-
-// Checks a predicate, and prints its tree and its clauses or the refusal.
-fn show_predicate<'a>(out: &mut impl Write, case: Case<'a>, rows: &'a [u64]) -> io::Result<()> {
-    match predicate::check(case.text, rows) {
-        Checked::Root(_) => {
-            let drawing = Drawing {
-                family: Family::Predicate,
-                text: case.text,
-                rows,
-            };
-            draw_counted(out, drawing)?;
-            print_predicate(out, case.text, rows, case.number)
+    // Parses a token table, and prints what comes of it. Each token is so many words.
+    fn show_parse(self, out: &mut impl Write, words_each: usize, tokens: &[u32]) -> io::Result<()> {
+        let mut rows = [0u64; ROWS_MAX * WIDTH];
+        match parser::parse(self.text, tokens, &mut rows) {
+            Parsed::Rows(n) => {
+                let drawing = Drawing {
+                    family: Family::Syntax { tokens },
+                    text: self.text,
+                    rows: &rows[..n.min(ROWS_MAX) * WIDTH],
+                };
+                draw_counted(out, drawing)
+            }
+            Parsed::Refused(why, place) => self.print_refused(out, words_each, why.at(place)),
         }
-        Checked::Refused(why, place) => print_refused(out, case, WIDTH, why.at(place)),
     }
-}
 
-// Prints of a word among the numbers that it cannot be taken, and why. A number has so many bits at most.
-fn print_wrong_word(
-    out: &mut impl Write,
-    number: u64,
-    wrong: WrongWord,
-    bits: u32,
-) -> io::Result<()> {
-    print_line_number(out, number)?;
-    match wrong.why {
-        NumberError::TooLarge => write!(out, "too large for {bits} bits: ")?,
-        NumberError::NotNumber => write!(out, "not a number: ")?,
+    // Checks a predicate, and prints its tree and its clauses or the refusal.
+    fn show_predicate(self, out: &mut impl Write, rows: &'a [u64]) -> io::Result<()> {
+        match predicate::check(self.text, rows) {
+            Checked::Root(_) => {
+                let drawing = Drawing {
+                    family: Family::Predicate,
+                    text: self.text,
+                    rows,
+                };
+                draw_counted(out, drawing)?;
+                print_predicate(out, self.text, rows, self.number)
+            }
+            Checked::Refused(why, place) => self.print_refused(out, WIDTH, why.at(place)),
+        }
     }
-    print_quoted(out, wrong.word)?;
-    print(out, b"\n")
-}
 
-// Shows the numbers as a predicate's rows.
-fn rows_case(out: &mut impl Write, case: Case) -> io::Result<()> {
-    let mut rows = [0u64; ROWS * WIDTH];
-    match numbers_of(case.words, &mut rows) {
-        Ok(rows) => show_predicate(out, case, rows),
-        Err(wrong) => print_wrong_word(out, case.number, wrong, u64::BITS),
+    // Shows the words as an expression.
+    fn show_words(self, out: &mut impl Write) -> io::Result<()> {
+        let mut table = [0u32; TOKENS * TOKEN_WIDTH];
+        let tokens = tokens_of(self.words, &mut table);
+        self.show_parse(out, 1, tokens)?;
+        self.print_doubt(out)
     }
-}
 
-// Shows the numbers as a token table.
-fn tokens_case(out: &mut impl Write, case: Case) -> io::Result<()> {
-    let mut table = [0u32; TOKENS * TOKEN_WIDTH];
-    match numbers_of(case.words, &mut table) {
-        Ok(tokens) => show_parse(out, case, TOKEN_WIDTH, tokens),
-        Err(wrong) => print_wrong_word(out, case.number, wrong, u32::BITS),
+    // Shows the numbers as a token table.
+    fn show_tokens(self, out: &mut impl Write) -> io::Result<()> {
+        let mut table = [0u32; TOKENS * TOKEN_WIDTH];
+        match numbers_of(self.words, &mut table) {
+            Ok(tokens) => self.show_parse(out, TOKEN_WIDTH, tokens),
+            Err(wrong) => self.print_wrong_word(out, wrong, u32::BITS),
+        }
     }
-}
 
-// Shows what comes after the text: the word `rows` or `tokens`, and numbers.
-fn after_text(out: &mut impl Write, mut case: Case) -> io::Result<()> {
-    match case.words.next().map(|word| word.bytes) {
-        Some(b"rows") => rows_case(out, case),
-        Some(b"tokens") => tokens_case(out, case),
-        _ => print_wrong(out, case.number, b"after the text comes: rows or tokens\n"),
+    // Shows the numbers as a predicate's rows.
+    fn show_rows(self, out: &mut impl Write) -> io::Result<()> {
+        let mut rows = [0u64; ROWS * WIDTH];
+        match numbers_of(self.words, &mut rows) {
+            Ok(rows) => self.show_predicate(out, rows),
+            Err(wrong) => self.print_wrong_word(out, wrong, u64::BITS),
+        }
+    }
+
+    // Shows what comes after the text: the word `rows` or `tokens`, and numbers.
+    fn show_after_text(mut self, out: &mut impl Write) -> io::Result<()> {
+        match self.words.next().map(|word| word.bytes) {
+            Some(b"rows") => self.show_rows(out),
+            Some(b"tokens") => self.show_tokens(out),
+            _ => print_wrong(out, self.number, b"after the text comes: rows or tokens\n"),
+        }
     }
 }
 
 // Shows a text between the first and the last quote of a line, and then numbers.
-fn text_case(out: &mut impl Write, line: &[u8], number: u64) -> io::Result<()> {
+fn show_text(out: &mut impl Write, line: &[u8], number: u64) -> io::Result<()> {
     let open = line.iter().position(|b| *b == b'\'');
     let close = line.iter().rposition(|b| *b == b'\'');
-    if let (Some(open), Some(close)) = (open, close)
-        && open < close
-    {
-        let text = &line[open + 1..close];
-        let words = Words::after(line, close + 1);
-        return after_text(
-            out,
-            Case {
+    match (open, close) {
+        (Some(open), Some(close)) if open < close => {
+            let text = &line[open + 1..close];
+            let words = Words::after(line, close + 1);
+            let case = Case {
                 number,
                 text,
                 words,
-            },
-        );
+            };
+            case.show_after_text(out)
+        }
+        _ => print_wrong(out, number, b"after text comes a text in single quotes\n"),
     }
-    print_wrong(out, number, b"after text comes a text in single quotes\n")
 }
 
 // Shows one line, by its first word.
 pub fn show_case(out: &mut impl Write, line: &[u8], number: u64) -> io::Result<()> {
     let mut words = Words::of(line);
     let first = words.next().map(|word| word.bytes);
-    let case = |text| Case {
+    let text = b"";
+    let case = Case {
         number,
         text,
         words,
     };
     match first {
-        Some(b"parse") => parse_case(out, case(line)),
-        Some(b"rows") => rows_case(out, case(b"")),
-        Some(b"tokens") => tokens_case(out, case(b"")),
-        Some(b"text") => text_case(out, line, number),
+        Some(b"parse") => Case { text: line, ..case }.show_words(out),
+        Some(b"rows") => case.show_rows(out),
+        Some(b"tokens") => case.show_tokens(out),
+        Some(b"text") => show_text(out, line, number),
         _ => print_wrong(
             out,
             number,

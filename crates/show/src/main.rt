@@ -38,6 +38,7 @@ fn show_read(out: &mut impl Write, line: &[u8], length: usize, number: u64) -> i
 }
 
 // Why the showing ended before the last line.
+#[derive(Clone, Copy)]
 enum ShowError {
     Unreadable(io::Error),
     Unwritable(io::Error),
