@@ -6,7 +6,7 @@ use std::ops::Range;
 // How many bytes are read at once.
 const CHUNK: usize = 4096;
 
-// Reads lines. Of the bytes that were read at once, `unread` are still to come.
+// Reads lines. Of the bytes that were read at once, `unread` are still to come. Nothing is read any more after the input ended: a terminal would go on.
 #[derive(Drop)]
 pub struct LineReader<R> {
     reader: R,

@@ -25,7 +25,7 @@ fn digit(b: u8, radix: u64) -> Option<u64> {
     Some(u64::from(d)).filter(|d| *d < radix)
 }
 
-// Reads a word of digits, at least one. A byte that is none counts before a number that is too large.
+// Reads a word of digits, at least one. Where a byte is no digit, the word is no number, and not one that is too large.
 fn number_of_digits(word: &[u8], radix: u64) -> Result<u64, NumberError> {
     if word.is_empty() {
         return Err(NumberError::NotNumber);

@@ -1,7 +1,7 @@
 // A case: an expression that is parsed, or a predicate that is split.
 use drawing::clauses::print_predicate;
 use drawing::names::print_refusal;
-use drawing::out::{print, print_blanks_for, print_count, print_line_number, print_quoted};
+use drawing::out::{print_blanks_for, print_count, print_line_number, print_quoted};
 use drawing::tree::{Drawing, Family};
 use limits::{ROWS_MAX, TOKENS_MAX};
 use lines::numbers::{NumberError, WrongWord, numbers_of};
@@ -21,9 +21,9 @@ const TOKENS: usize = TOKENS_MAX + 1;
 const ROWS: usize = ROWS_MAX + 1;
 
 // Prints what a line has wrong.
-pub fn print_wrong(out: &mut impl Write, number: u64, what: &[u8]) -> io::Result<()> {
+pub fn print_wrong(out: &mut impl Write, number: u64, what: &str) -> io::Result<()> {
     print_line_number(out, number)?;
-    print(out, what)
+    writeln!(out, "{what}")
 }
 
 // Prints how many rows there are, and draws their tree.
@@ -54,7 +54,7 @@ impl<'a> Case<'a> {
         if refused.why != Refusal::TooLong {
             let word = refused.place.saturating_mul(words_each);
             print_blanks_for(out, self.words.before(word))?;
-            print(out, b"^\n")?;
+            writeln!(out, "^")?;
         }
         print_refusal(out, self.number, refused)
     }
@@ -64,10 +64,10 @@ impl<'a> Case<'a> {
         print_line_number(out, self.number)?;
         match wrong.why {
             NumberError::TooLarge => write!(out, "too large for {bits} bits: ")?,
-            NumberError::NotNumber => print(out, b"not a number: ")?,
+            NumberError::NotNumber => write!(out, "not a number: ")?,
         }
         print_quoted(out, wrong.word)?;
-        print(out, b"\n")
+        writeln!(out)
     }
 
     // Prints of the first name that holds a sign or a quote that it is a name.
@@ -77,9 +77,9 @@ impl<'a> Case<'a> {
         };
         print_line_number(out, self.number)?;
         print_quoted(out, word)?;
-        print(
+        writeln!(
             out,
-            b" is one name here; blanks part words and signs, and a String holds none\n",
+            " is one name here; blanks part words and signs, and a String holds none"
         )
     }
 
@@ -146,7 +146,7 @@ impl<'a> Case<'a> {
         match self.words.next().map(|word| word.bytes) {
             Some(b"rows") => self.show_rows(out),
             Some(b"tokens") => self.show_tokens(out),
-            _ => print_wrong(out, self.number, b"after the text comes: rows or tokens\n"),
+            _ => print_wrong(out, self.number, "after the text comes: rows or tokens"),
         }
     }
 }
@@ -166,7 +166,7 @@ fn show_text(out: &mut impl Write, line: &[u8], number: u64) -> io::Result<()> {
             };
             case.show_after_text(out)
         }
-        _ => print_wrong(out, number, b"after text comes a text in single quotes\n"),
+        _ => print_wrong(out, number, "after text comes a text in single quotes"),
     }
 }
 
@@ -188,7 +188,7 @@ pub fn show_case(out: &mut impl Write, line: &[u8], number: u64) -> io::Result<(
         _ => print_wrong(
             out,
             number,
-            b"a case starts with parse, rows, tokens or text\n",
+            "a case starts with parse, rows, tokens or text",
         ),
     }
 }

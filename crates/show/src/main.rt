@@ -22,10 +22,10 @@ fn show_line(out: &mut impl Write, line: &[u8], number: u64) -> io::Result<()> {
     };
     print(out, line)?;
     if !first.bytes.starts_with(b"#") {
-        print(out, b"\n")?;
+        writeln!(out)?;
         show_case(out, line, number)?;
     }
-    print(out, b"\n")
+    writeln!(out)
 }
 
 // Shows a line of so many bytes, of which `line` has those that there are places for.
@@ -33,8 +33,8 @@ fn show_read(out: &mut impl Write, line: &[u8], length: usize, number: u64) -> i
     if let Some(line) = line.get(..length) {
         return show_line(out, line, number);
     }
-    print_wrong(out, number, b"longer than 65536 bytes, and left out\n")?;
-    print(out, b"\n")
+    print_wrong(out, number, "longer than 65536 bytes, and left out")?;
+    writeln!(out)
 }
 
 // Why the showing ended before the last line.
