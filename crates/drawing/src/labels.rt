@@ -9,9 +9,6 @@ use syntax::kind as syntax_kind;
 use tokens::table::spelled;
 use values::{Value, bits_of, constant_of_row, value_of};
 
-// The pattern of every NaN.
-const NAN_BITS: u64 = 0x7ff8_0000_0000_0000;
-
 // Answers a truth value as it is written.
 fn truth(yes: bool) -> &'static str {
     if yes { "TRUE" } else { "FALSE" }
@@ -22,22 +19,14 @@ fn null_or_nan(y: u64) -> &'static str {
     if y == 0 { "NULL" } else { "NAN" }
 }
 
-// Prints a Float, by its bits.
-fn print_float(out: &mut impl Write, bits: u64) -> io::Result<()> {
-    if bits == NAN_BITS {
-        write!(out, "NAN")
-    } else {
-        write!(out, "0x{bits:016x}")
-    }
-}
-
-// Prints a value. A String is a part of the text.
+// Prints a value: a Float by its bits, and a String as the part of the text that it is.
 pub fn print_value(out: &mut impl Write, text: &[u8], v: Value) -> io::Result<()> {
     match v {
         Value::Null => write!(out, "NULL"),
         Value::Boolean(b) => write!(out, "{}", truth(b)),
         Value::Integer(n) => write!(out, "{n}"),
-        Value::Float(f) => print_float(out, bits_of(f)),
+        Value::Float(f) if f.is_nan() => write!(out, "NAN"),
+        Value::Float(f) => write!(out, "0x{:016x}", bits_of(f)),
         Value::String { start, length } => {
             let part = text.get(start..start.saturating_add(length));
             print_quoted(out, part.unwrap_or(b""))
@@ -52,19 +41,21 @@ pub fn print_syntax_row(
     tokens: &[u32],
     row: Row,
 ) -> io::Result<()> {
-    let x = row.x;
-    let first = spelled(text, tokens, x as usize);
+    let token = |n: u64| spelled(text, tokens, n as usize);
     write!(out, "{}", syntax_name(row.kind))?;
     match row.kind {
-        syntax_kind::INTEGER => write!(out, " {x}"),
+        syntax_kind::INTEGER => write!(out, " {}", row.x),
         syntax_kind::FLOAT | syntax_kind::COLUMN | syntax_kind::FUNCTION => print_between(
-            out, " ", first, "",
+            out,
+            " ",
+            token(row.x),
+            "",
         ),
-        syntax_kind::STRING => print_between(out, " '", first, "'"),
-        syntax_kind::BOOLEAN => write!(out, " {}", truth(x != 0)),
+        syntax_kind::STRING => print_between(out, " '", token(row.x), "'"),
+        syntax_kind::BOOLEAN => write!(out, " {}", truth(row.x != 0)),
         syntax_kind::QUALIFIED => {
-            print_between(out, " ", first, ".")?;
-            out.write_all(spelled(text, tokens, row.y as usize))
+            print_between(out, " ", token(row.x), ".")?;
+            out.write_all(token(row.y))
         }
         syntax_kind::IS => write!(out, " {}", null_or_nan(row.y)),
         _ => Ok(()),

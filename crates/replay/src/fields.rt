@@ -50,7 +50,7 @@ impl<'a> Fields<'a> {
         (self.number() as usize).min(most)
     }
 
-    // Reads a count of parts, and the numbers of these, of which each part has `width`, as many parts as there are places for; answers what it wrote.
+    // Reads a count of parts and their numbers, `width` of them a part, but no more parts than there are places for; answers the numbers.
     fn list<'b, T: Copy + Drop, F: Fn(u64) -> T>(
         &mut self,
         out: &'b mut [T],

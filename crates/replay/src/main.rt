@@ -28,11 +28,11 @@ const PARSE: u64 = b'P' as u64;
 const SPLIT: u64 = b'S' as u64;
 
 // The lines so far, how many of them differ, and the first that does.
-#[derive(Clone, Copy)]
-pub struct Tally {
-    pub lines: u64,
-    pub wrong: u64,
-    pub first: Option<u64>,
+#[derive(Drop)]
+struct Tally {
+    lines: u64,
+    wrong: u64,
+    first: Option<u64>,
     ghost at_most: { wrong ≤ lines },
 }
 
@@ -41,67 +41,56 @@ impl Tally {
     fn count(&mut self, right: bool)
         ensures { self.new.lines ≤ self.old.lines + 1 }
     {
-        let Tally {
-            lines,
-            wrong,
-            first,
-        } = *self;
-        let number = lines.saturating_add(1);
-        *self = if right {
-            Tally {
-                lines: number,
-                wrong,
-                first,
-            }
-        } else {
-            Tally {
-                lines: number,
-                wrong: wrong.saturating_add(1),
-                first: first.or(Some(number)),
-            }
-        };
+        self.lines = self.lines.saturating_add(1);
+        if !right {
+            self.wrong = self.wrong.saturating_add(1);
+            self.first = self.first.or(Some(self.lines));
+        }
     }
 }
 
-// Tells if the library answers what this line says. A line of more than FIELDS fields counts as wrong.
+// What could not be read or written, and why.
+struct Failure<'a> {
+    what: &'a str,
+    why: io::Error,
+}
+
+// Tells if the library answers what the fields of a line say.
+fn answered_as_stored(fields: &mut Fields) -> bool {
+    match fields.number() {
+        LOOK => looking::look_case(fields),
+        PARSE => reading::parse_case(fields),
+        SPLIT => splitting::split_case(fields),
+        _ => false,
+    }
+}
+
+// Tells if the library answers what this line says. A line with more fields than FIELDS counts as wrong.
 fn line_right(line: &[u8]) -> bool {
     let spaces = line.iter().filter(|b| **b == b' ').count();
-    let mut fields = Fields::of(line);
-    spaces < FIELDS
-        && match fields.number() {
-            LOOK => looking::look_case(&mut fields),
-            PARSE => reading::parse_case(&mut fields),
-            SPLIT => splitting::split_case(&mut fields),
-            _ => false,
-        }
+    spaces < FIELDS && answered_as_stored(&mut Fields::of(line))
 }
 
 // Replays every line of a list.
 fn replayed(list: &[u8]) -> Tally {
-    let mut t = Tally {
+    let mut tally = Tally {
         lines: 0,
         wrong: 0,
         first: None,
     };
     for line in list.split_inclusive(|b| *b == b'\n') {
-        t.count(line_right(line.strip_suffix(b"\n").unwrap_or(line)));
+        tally.count(line_right(line.strip_suffix(b"\n").unwrap_or(line)));
     }
-    t
+    tally
 }
 
 // Prints what came of a list.
-fn report(rt: &impl Print, name: &str, t: Tally) -> io::Result<()> {
-    print!(rt; "{name}: {} cases, {} differ", t.lines, t.wrong)?;
-    if let Some(line) = t.first {
+fn report(rt: &impl Print, name: &str, tally: &Tally) -> io::Result<()> {
+    print!(rt; "{name}: {} cases, {} differ", tally.lines, tally.wrong)?;
+    if let Some(line) = tally.first {
         print!(rt; ", the first in line {line}")?;
     }
     println!(rt)
-}
-
-// Says on standard error what failed and why; answers false.
-fn fail(rt: &impl Eprint, what: &str, why: io::Error) -> bool {
-    let _ = eprintln!(rt; "{what}: {why}");
-    false
 }
 
 // Reads what there is, as much of it as there are places for; answers how many bytes these are.
@@ -127,24 +116,23 @@ fn read_list(rt: &impl Files, name: &str, list: &mut [u8]) -> io::Result<usize>
     read_full(&mut file, list)
 }
 
-// Replays a list by its name; tells if it could be read, and what came of it printed.
-fn replay(rt: &(impl Files + Print + Eprint), name: &str) -> bool {
+// Replays a list by its name, and prints what came of it.
+fn replay<'a>(rt: &(impl Files + Print), name: &'a str) -> Result<(), Failure<'a>> {
     let mut list = [0u8; LIST];
-    match read_list(rt, name, &mut list) {
-        Ok(n) => match report(rt, name, replayed(&list[0..n])) {
-            Ok(()) => true,
-            Err(why) => fail(rt, "standard output", why),
-        },
-        Err(why) => fail(rt, name, why),
-    }
+    let n = read_list(rt, name, &mut list).map_err(|why| Failure { what: name, why })?;
+    report(rt, name, &replayed(&list[..n])).map_err(|why| Failure {
+        what: "standard output",
+        why,
+    })
 }
 
 fn main(rt: HostRuntime) -> ExitCode {
-    let parse = replay(&rt, "parse.txt");
-    let split = replay(&rt, "split.txt");
-    if parse && split {
-        ExitCode::SUCCESS
-    } else {
-        ExitCode::FAILURE
+    let mut status = ExitCode::SUCCESS;
+    for name in ["parse.txt", "split.txt"] {
+        if let Err(Failure { what, why }) = replay(&rt, name) {
+            let _ = eprintln!(rt; "{what}: {why}");
+            status = ExitCode::FAILURE;
+        }
     }
+    status
 }

@@ -11,14 +11,10 @@ const ENDS: usize = 512;
 // What stands in the lists before a split: it stays after what is written.
 const BEFORE: u32 = 7;
 
-// Tells if a list has so many numbers and is as before after them; answers these.
+// Answers the first numbers of a list, of which there are so many, if all after them is as before.
 fn written(list: &[u32], count: usize) -> Option<&[u32]> {
     let (written, after) = list.split_at_checked(count)?;
-    if after.iter().all(|x| *x == BEFORE) {
-        Some(written)
-    } else {
-        None
-    }
+    after.iter().all(|x| *x == BEFORE).then_some(written)
 }
 
 // Tells if the clauses are those of the next fields, to the last field.
@@ -42,10 +38,10 @@ fn lists_are(literals: &[u32], ends: &[u32], c: usize, m: usize, fields: &mut Fi
     if !fields.are(&[b'C']) || fields.next() != Some(c as u64) {
         return false;
     }
-    match (written(literals, m), written(ends, c)) {
-        (Some(literals), Some(ends)) => clauses_are(literals, ends, fields),
-        _ => false,
-    }
+    let (Some(literals), Some(ends)) = (written(literals, m), written(ends, c)) else {
+        return false;
+    };
+    clauses_are(literals, ends, fields)
 }
 
 // Tells if the splitter answers what is stored.
