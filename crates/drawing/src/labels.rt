@@ -7,7 +7,7 @@ use std::io;
 use std::io::Write;
 use syntax::kind as syntax_kind;
 use tokens::table::spelled;
-use values::{Value, bits_of, constant_of_row, value_of};
+use values::{Value, constant_of_row, value_of};
 
 // Answers a truth value as it is written.
 fn truth(yes: bool) -> &'static str {
@@ -26,7 +26,7 @@ pub fn print_value(out: &mut impl Write, text: &[u8], v: Value) -> io::Result<()
         Value::Boolean(b) => write!(out, "{}", truth(b)),
         Value::Integer(n) => write!(out, "{n}"),
         Value::Float(f) if f.is_nan() => write!(out, "NAN"),
-        Value::Float(f) => write!(out, "0x{:016x}", bits_of(f)),
+        Value::Float(f) => write!(out, "0x{:016x}", f.to_bits()),
         Value::String { start, length } => {
             let part = text.get(start..start.saturating_add(length));
             print_quoted(out, part.unwrap_or(b""))
