@@ -2,11 +2,6 @@
 use std::io;
 use std::io::Write;
 
-// Prints bytes.
-pub fn print(out: &mut impl Write, s: &[u8]) -> io::Result<()> {
-    out.write_all(s)
-}
-
 // Prints bytes, with something before and after them.
 pub fn print_between(out: &mut impl Write, before: &str, s: &[u8], after: &str) -> io::Result<()> {
     write!(out, "{before}")?;

@@ -3,7 +3,6 @@
 #![tactic(auto)]
 
 use cases::{print_wrong, show_case};
-use drawing::out::print;
 use lines::input::LineReader;
 use lines::scan::Words;
 use std::env::FillError;
@@ -20,7 +19,7 @@ fn show_line(out: &mut impl Write, line: &[u8], number: u64) -> io::Result<()> {
     let Some(first) = Words::of(line).next() else {
         return Ok(());
     };
-    print(out, line)?;
+    out.write_all(line)?;
     if !first.bytes.starts_with(b"#") {
         writeln!(out)?;
         show_case(out, line, number)?;
