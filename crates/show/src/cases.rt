@@ -7,8 +7,6 @@ use limits::{ROWS_MAX, TOKENS_MAX};
 use lines::numbers::{NumberError, WrongWord, numbers_of};
 use lines::scan::Words;
 use lines::words::{first_doubt, tokens_of};
-use parser::Parsed;
-use predicate::Checked;
 use refusals::{Refusal, Refused};
 use rows::WIDTH;
 use std::io;
@@ -87,7 +85,7 @@ impl<'a> Case<'a> {
     fn show_parse(self, out: &mut impl Write, words_each: usize, tokens: &[u32]) -> io::Result<()> {
         let mut rows = [0u64; ROWS_MAX * WIDTH];
         match parser::parse(self.text, tokens, &mut rows) {
-            Parsed::Rows(n) => {
+            Ok(n) => {
                 let drawing = Drawing {
                     family: Family::Syntax { tokens },
                     text: self.text,
@@ -95,14 +93,14 @@ impl<'a> Case<'a> {
                 };
                 draw_counted(out, drawing)
             }
-            Parsed::Refused(why, place) => self.print_refused(out, words_each, why.at(place)),
+            Err(refused) => self.print_refused(out, words_each, refused),
         }
     }
 
     // Checks a predicate, and prints its tree and its clauses or the refusal.
     fn show_predicate(self, out: &mut impl Write, rows: &'a [u64]) -> io::Result<()> {
         match predicate::check(self.text, rows) {
-            Checked::Root(_) => {
+            Ok(_) => {
                 let drawing = Drawing {
                     family: Family::Predicate,
                     text: self.text,
@@ -111,7 +109,7 @@ impl<'a> Case<'a> {
                 draw_counted(out, drawing)?;
                 print_predicate(out, self.text, rows, self.number)
             }
-            Checked::Refused(why, place) => self.print_refused(out, WIDTH, why.at(place)),
+            Err(refused) => self.print_refused(out, WIDTH, refused),
         }
     }
 
