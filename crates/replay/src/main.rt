@@ -13,7 +13,7 @@ mod looking;
 mod reading;
 mod splitting;
 
-ghost use Rattle.std.specs.Prelude.{◌+◌, ◌^◌, ◌<◌, ◌≤◌, length, IfOk};
+ghost use Rattle.std.specs.Prelude.{◌+◌, ◌≤◌, length, IfOk};
 
 // Bytes of a list, and fields of a line.
 const LIST: usize = 131072;
