@@ -3,7 +3,7 @@ use crate::labels::print_value;
 use crate::names::print_refusal;
 use crate::out::print_count;
 use limits::{CLAUSES_MAX, LITERALS_MAX};
-use lookup::{FoundValue, LookedUp};
+use lookup::ColumnLookup;
 use splitter::Listed;
 use std::io;
 use std::io::Write;
@@ -26,8 +26,8 @@ impl Predicate<'_> {
                 write!(out, ", ")?;
             }
             match lookup::value_at(self.text, self.rows, clause, i) {
-                FoundValue::Found(v) => print_value(out, self.text, v)?,
-                FoundValue::Refused(_, _) => write!(out, "?")?,
+                Ok(v) => print_value(out, self.text, v)?,
+                Err(_) => write!(out, "?")?,
             }
         }
         Ok(())
@@ -36,12 +36,12 @@ impl Predicate<'_> {
     // Prints what a clause looks for.
     fn print_lookup(self, out: &mut impl Write, clause: usize) -> io::Result<()> {
         match lookup::lookup(self.text, self.rows, clause) {
-            LookedUp::OnColumn(column, count) => {
+            Ok(ColumnLookup { column, values }) => {
                 write!(out, "    lookup on column {column}: ")?;
-                self.print_values(out, clause, count)?;
+                self.print_values(out, clause, values)?;
                 writeln!(out)
             }
-            LookedUp::Refused(_, _) => writeln!(out, "    no lookup"),
+            Err(_) => writeln!(out, "    no lookup"),
         }
     }
 
@@ -71,11 +71,11 @@ fn print_literals(out: &mut impl Write, literals: &[u32]) -> io::Result<()> {
 }
 
 // Prints how many clauses and literals there are.
-fn print_counts(out: &mut impl Write, clauses: usize, literals: usize) -> io::Result<()> {
+fn print_counts(out: &mut impl Write, listed: Listed) -> io::Result<()> {
     write!(out, "  ")?;
-    print_count(out, clauses, "clause")?;
+    print_count(out, listed.clauses, "clause")?;
     write!(out, ", ")?;
-    print_count(out, literals, "literal")?;
+    print_count(out, listed.literals, "literal")?;
     writeln!(out)
 }
 
@@ -89,11 +89,11 @@ pub fn print_predicate(
     let mut literals = [0u32; LITERALS_MAX as usize];
     let mut ends = [0u32; CLAUSES_MAX as usize];
     match splitter::split(text, rows, &mut literals, &mut ends) {
-        Listed::Clauses(count, total) => {
-            print_counts(out, count, total)?;
-            let ends = ends.get(..count).unwrap_or(&[]);
+        Ok(listed) => {
+            print_counts(out, listed)?;
+            let ends = ends.get(..listed.clauses).unwrap_or(&[]);
             Predicate { text, rows }.print_clauses(out, &literals, ends)
         }
-        Listed::Refused(why, at) => print_refusal(out, line, why.at(at)),
+        Err(refused) => print_refusal(out, line, refused),
     }
 }

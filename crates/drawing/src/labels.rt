@@ -7,7 +7,7 @@ use std::io;
 use std::io::Write;
 use syntax::kind as syntax_kind;
 use tokens::table::spelled;
-use values::{Value, constant_of_row, value_of};
+use values::{Constant, Value};
 
 // Answers a truth value as it is written.
 fn truth(yes: bool) -> &'static str {
@@ -65,7 +65,7 @@ pub fn print_syntax_row(
 // Prints the value of a constant's row.
 fn print_constant(out: &mut impl Write, text: &[u8], row: Row) -> io::Result<()> {
     write!(out, " ")?;
-    print_value(out, text, value_of(constant_of_row(row)))
+    print_value(out, text, Value::from(Constant::from(row)))
 }
 
 // Prints a predicate row.

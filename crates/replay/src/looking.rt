@@ -1,10 +1,10 @@
 // The stored answers of the original's lookups: a line of split.txt is `L`, a text, a predicate's rows, a clause, and `N` where it is no lookup, or `V` with
 // the column and the values, each as a constant.
 use crate::fields::{Fields, ROWS, TEXT};
-use lookup::{FoundValue, LookedUp};
-use refusals::Refusal;
+use lookup::ColumnLookup;
+use refusals::{Refusal, Refused};
 use rows::WIDTH;
-use values::constant_of;
+use values::{Constant, Value};
 
 // No stored clause has a higher number.
 const CLAUSE_MAX: usize = 4096;
@@ -19,36 +19,37 @@ struct Clause<'a> {
 
 impl Clause<'_> {
     // Answers value i.
-    fn value(self, i: usize) -> FoundValue {
+    fn value(self, i: usize) -> Result<Value, Refused> {
         lookup::value_at(self.text, self.rows, self.number, i)
     }
 
     // Tells if value i is the constant of the next fields.
     fn value_is(self, i: usize, fields: &mut Fields) -> bool {
         match self.value(i) {
-            FoundValue::Found(value) => {
-                let constant = constant_of(value);
+            Ok(value) => {
+                let constant = Constant::from(value);
                 fields.are(&[constant.kind, constant.x, constant.y])
             }
-            FoundValue::Refused(_, _) => false,
+            Err(_) => false,
         }
     }
 
     // Tells if the clause has so many values, which are those of the next fields.
     fn values_are(self, count: usize, fields: &mut Fields) -> bool {
-        let no_more = matches!(self.value(count), FoundValue::Refused(Refusal::NoSuch, _));
+        let no_more = self
+            .value(count)
+            .is_err_and(|refused| refused.why == Refusal::NoSuch);
         no_more && (0..count).all(|i| self.value_is(i, fields))
     }
 
     // Tells if the answer is what the next fields say.
     fn answer_is(self, fields: &mut Fields) -> bool {
         match lookup::lookup(self.text, self.rows, self.number) {
-            LookedUp::OnColumn(column, count) => {
-                fields.are(&[b'V' as u64, column as u64, count as u64])
-                    && self.values_are(count, fields)
+            Ok(ColumnLookup { column, values }) => {
+                fields.are(&[b'V' as u64, column as u64, values as u64])
+                    && self.values_are(values, fields)
             }
-            LookedUp::Refused(Refusal::NotLookup, _) => fields.are(&[b'N']),
-            LookedUp::Refused(_, _) => false,
+            Err(refused) => refused.why == Refusal::NotLookup && fields.are(&[b'N']),
         }
     }
 }

@@ -1,6 +1,6 @@
 // The stored answers of the original's parser: a line of parse.txt is `P`, a text, its tokens, and `A` with the rows or `R` with the refusal.
 use crate::fields::{Fields, TEXT};
-use parser::Parsed;
+use refusals::Refused;
 use rows::WIDTH;
 use tokens::table::WIDTH as TOKEN_WIDTH;
 
@@ -21,10 +21,10 @@ fn rows_are(rows: &[u64], written: usize, fields: &mut Fields) -> bool {
 }
 
 // Tells if the answer is what the next fields say: `A`, a count and rows, or `R`, a number and a place.
-fn answer_is(answer: Parsed, rows: &[u64], fields: &mut Fields) -> bool {
+fn answer_is(answer: Result<usize, Refused>, rows: &[u64], fields: &mut Fields) -> bool {
     match answer {
-        Parsed::Rows(n) => fields.are(&[b'A' as u64, n as u64]) && rows_are(rows, n, fields),
-        Parsed::Refused(why, place) => {
+        Ok(n) => fields.are(&[b'A' as u64, n as u64]) && rows_are(rows, n, fields),
+        Err(Refused { why, place }) => {
             fields.are(&[b'R' as u64, u32::from(why) as u64, place as u64])
                 && rows.iter().all(|x| *x == 0)
         }

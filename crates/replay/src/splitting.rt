@@ -34,11 +34,14 @@ fn clauses_are(literals: &[u32], ends: &[u32], fields: &mut Fields) -> bool {
 }
 
 // Tells if the lists are what the next fields say, `C`, a count and the clauses, and otherwise as before.
-fn lists_are(literals: &[u32], ends: &[u32], c: usize, m: usize, fields: &mut Fields) -> bool {
-    if !fields.are(&[b'C']) || fields.next() != Some(c as u64) {
+fn lists_are(listed: Listed, literals: &[u32], ends: &[u32], fields: &mut Fields) -> bool {
+    if !fields.are(&[b'C']) || fields.next() != Some(listed.clauses as u64) {
         return false;
     }
-    let (Some(literals), Some(ends)) = (written(literals, m), written(ends, c)) else {
+    let (Some(literals), Some(ends)) = (
+        written(literals, listed.literals),
+        written(ends, listed.clauses),
+    ) else {
         return false;
     };
     clauses_are(literals, ends, fields)
@@ -53,7 +56,7 @@ pub fn split_case(fields: &mut Fields) -> bool {
     let text = fields.text(&mut text);
     let rows = fields.rows(&mut rows);
     match splitter::split(text, rows, &mut literals, &mut ends) {
-        Listed::Clauses(c, m) => lists_are(&literals, &ends, c, m, fields),
-        Listed::Refused(_, _) => false,
+        Ok(listed) => lists_are(listed, &literals, &ends, fields),
+        Err(_) => false,
     }
 }
