@@ -1,33 +1,28 @@
--- How a step's answer goes on: what follows a step that read (`after_read`) or refused (`after_refused`), and what is given by a step.
+-- How a step's answer goes on: what follows a step that read (`after_read`) or refused (`after_err`), and what is given by a step.
 -- Assumes nothing.
-use mathlib.Core.Path.{◌≡◌, sym, ◌∙◌}
+use mathlib.Core.Path.{◌≡◌, ◌∙◌}
 use mathlib.Core.List.{List}
 use Prim.Native.Nat.{ℕ}
-use Rattle.refusals.specs.declared.Refusal.{Refusal}
-use Rattle.grammar.specs.Memory.{Out, done, refuse, Gives, then}
+use Rattle.std.specs.Prelude.{Result, Ok, Err}
+use Rattle.refusals.specs.Refusal.{refused}
+use Rattle.refusals.specs.declared.Refused.{Refused}
+use Rattle.grammar.specs.Memory.{Out, refuse, Gives, then}
 use Rattle.grammar.specs.declared.Cursor.{Cursor}
-use Rattle.grammar.specs.declared.Step.{Step}
-use Rattle.grammar.specs.declared.Step.TheVariants.{Read, Refused}
 
 -- what follows a step that read
-pub after_read : {r : Step} {d : Cursor} {t : List ℕ} {o : Out} (k : Cursor → List ℕ → Out) → r ≡ Read d → Gives o r t → then o k ≡ k d t
+pub after_read : {r : Result Cursor Refused} {d : Cursor} {t : List ℕ} {o : Out} (k : Cursor → List ℕ → Out) → r ≡ Ok d → Gives o r t → then o k ≡ k d t
 unfolding then
 after_read {r} {d} {t} {o} k e a = rw (← a.answer, e)
 
+-- what follows a step that refused
+pub after_err : {r : Result Cursor Refused} {e : Refused} {t : List ℕ} {o : Out} (k : Cursor → List ℕ → Out) → r ≡ Err e → Gives o r t →
+    then o k ≡ refuse e.why e.place
+unfolding then
+after_err {r} {e} {t} {o} k is a = rw (← a.answer, is)
+
 -- a step that gives what is equal
-pub gives_same : {r : Step} {t : List ℕ} {o u : Out} → o ≡ u → Gives o r t → Gives u r t
+pub gives_same : {r : Result Cursor Refused} {t : List ℕ} {o u : Out} → o ≡ u → Gives o r t → Gives u r t
 gives_same e a = record { answer = a.answer ∙ e }
 
--- nothing follows a step that refused: its refusal goes on as it is
-pub after_refused : {r : Step} {why : Refusal} {p : ℕ} {t : List ℕ} {o u : Out} (k : Cursor → List ℕ → Out) → r ≡ Refused why p → Gives o r t →
-    then o k ≡ u → Gives u r t
-unfolding then
-after_refused {r} {why} {p} {t} {o} k e a same = gives_same same (record { answer = rw (← a.answer, e) })
-
--- a reading that ends in a refusal
-pub gives_refusal : {o : Out} {why : Refusal} {p : ℕ} {t : List ℕ} → o ≡ refuse why p → Gives o (Refused why p) t
-gives_refusal e = record { answer = sym e }
-
--- a reading that ends as it began
-pub gives_read : {o : Out} {c : Cursor} {t : List ℕ} → o ≡ done c t → Gives o (Read c) t
-gives_read e = record { answer = sym e }
+-- the three by one name, for the functions' `using`
+pub ruleset goes_on = (after_read, after_err, gives_same)

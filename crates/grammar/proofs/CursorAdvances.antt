@@ -9,12 +9,13 @@ use native.Mathlib.Omega.{arith}
 use native.Mathlib.Nat.{le_refl}
 use borrow.Author.Tests.{eqb-true, eqb-false}
 use lib.Dec.{eqb, leb}
+use Rattle.std.specs.Prelude.{Option, Some, None}
 use Rattle.tokens.specs.Kind as kind
 use Rattle.tokens.specs.Token.{token_count, kind_at, spelled}
 use Rattle.tokens.proofs.TokenTable.{kind_in}
 use Rattle.numbers.specs.Number.{number_of}
 use Rattle.numbers.specs.declared.Number.{Number}
-use Rattle.numbers.specs.declared.Number.TheVariants.{Integer, Float, Neither}
+use Rattle.numbers.specs.declared.Number.TheVariants.{Integer, Float}
 use Rattle.refusals.specs.declared.Refusal.{Refusal}
 use Rattle.refusals.specs.declared.Refusal.TheVariants.{NeedClose, NeedComma, NeedName, NeedNullOrNan}
 use Rattle.rows.specs.Layout.{capacity}
@@ -88,11 +89,11 @@ module _ (ts : List ℕ) where
       (λ e. less _ (omega arith) (push_after_advances _ (need_advances kind.ident (omega arith) NeedName (past 2 c) t)))
       (λ e. push_row_advances _ (past 1 c) t (omega arith))
 
-  numeral_advances : (x : Number) (c : Cursor) (t : List ℕ) → c.at < token_count ts → Holds (Moves ts (c.at + 1)) (numeral x c t)
+  numeral_advances : (x : Option Number) (c : Cursor) (t : List ℕ) → c.at < token_count ts → Holds (Moves ts (c.at + 1)) (numeral x c t)
   unfolding numeral
-  numeral_advances (Integer n) c t lt = push_row_advances _ (past 1 c) t (omega arith)
-  numeral_advances Float c t lt = push_row_advances _ (past 1 c) t (omega arith)
-  numeral_advances Neither c t lt = gone
+  numeral_advances (Some (Integer n)) c t lt = push_row_advances _ (past 1 c) t (omega arith)
+  numeral_advances (Some Float) c t lt = push_row_advances _ (past 1 c) t (omega arith)
+  numeral_advances None c t lt = gone
 
 module _ (text ts : List ℕ) where
   module _ (rec : Rec) (goes : (m : ℕ) (c : Cursor) (t : List ℕ) → c.at ≤ token_count ts → Holds (Moves ts (c.at + 1)) (rec m c t)) where

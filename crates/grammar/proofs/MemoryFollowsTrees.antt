@@ -10,11 +10,12 @@ use borrow.Author.Tests.{ne_eqb}
 use lib.Dec.{eqb, ltb}
 use lib.ListN.{length-append}
 use lib.Seq.{sets}
+use Rattle.std.specs.Prelude.{Option, Some, None}
 use Rattle.tokens.specs.Kind as kind
 use Rattle.tokens.specs.Token.{token_count, kind_at, spelled}
 use Rattle.numbers.specs.Number.{number_of}
 use Rattle.numbers.specs.declared.Number.{Number}
-use Rattle.numbers.specs.declared.Number.TheVariants.{Integer, Float, Neither}
+use Rattle.numbers.specs.declared.Number.TheVariants.{Integer, Float}
 use Rattle.refusals.specs.declared.Refusal.{Refusal}
 use Rattle.refusals.specs.declared.Refusal.TheVariants.{End, NeedClose, NeedComma, NeedName, NeedNullOrNan}
 use Rattle.rows.specs.Label.{Label, leaf_row, row_over_one, row_over_two}
@@ -112,11 +113,11 @@ module _ (text ts : List ℕ) (cap : ℕ) where
   abbrev pub Reads : Rec → Reader → Type 0
   Reads rec read = (m : ℕ) → LaidAnywhere (rec m) (read m)
 
-  numeral_laid : (x : Number) → LaidAnywhere (M.numeral x) (T.numeral text ts cap x)
+  numeral_laid : (x : Option Number) → LaidAnywhere (M.numeral x) (T.numeral text ts cap x)
   unfolding M.numeral T.numeral
-  numeral_laid (Integer n) c t room = leaf_laid _ 1 c t room
-  numeral_laid Float c t room = leaf_laid _ 1 c t room
-  numeral_laid Neither c t room = refusal_laid cap
+  numeral_laid (Some (Integer n)) c t room = leaf_laid _ 1 c t room
+  numeral_laid (Some Float) c t room = leaf_laid _ 1 c t room
+  numeral_laid None c t room = refusal_laid cap
 
   column_laid : LaidAnywhere (M.column ts) (T.column text ts cap)
   unfolding M.column T.column

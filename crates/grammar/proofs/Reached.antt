@@ -8,11 +8,11 @@ use Prim.Native.Nat.{ℕ}
 use lib.Dec.{eqb}
 use Rattle.tokens.specs.Kind as kind
 use Rattle.tokens.specs.Token.{kind_at}
+use Rattle.std.specs.Prelude.{Result, Ok}
+use Rattle.refusals.specs.declared.Refused.{Refused}
 use Rattle.refusals.specs.declared.Refusal.{Refusal}
 use Rattle.grammar.specs.Memory.{Out, done, refuse, Gives, then, missing}
 use Rattle.grammar.specs.declared.Cursor.{Cursor}
-use Rattle.grammar.specs.declared.Step.{Step}
-use Rattle.grammar.specs.declared.Step.TheVariants.{Read}
 
 -- P holds of where o comes to, if it is no refusal
 abbrev Told : (Cursor → Type 0) → Out → Type 0
@@ -50,7 +50,7 @@ anything (done d u) = record { told = tt }
 anything (refuse why p) = gone
 
 -- so it holds of where a step came to
-pub came : {P : Cursor → Type 0} {o : Out} {r : Step} {t : List ℕ} {d : Cursor} → r ≡ Read d → Gives o r t → Holds P o → P d
+pub came : {P : Cursor → Type 0} {o : Out} {r : Result Cursor Refused} {t : List ℕ} {d : Cursor} → r ≡ Ok d → Gives o r t → Holds P o → P d
 came {P} {o} {r} {t} {d} e a h =
     let is : done d t ≡ o = rw e at a.answer in
     let there : Holds P (done d t) = rw is h in

@@ -12,12 +12,13 @@ use Prim.Native.Nat.{ℕ, zero, suc, ◌+◌, ◌≤◌, ◌<◌, max}
 use native.Mathlib.Omega.{arith}
 use borrow.Author.Tests.{eqb-true, eqb-false, leb-true}
 use lib.Dec.{eqb, leb, ltb}
+use Rattle.std.specs.Prelude.{Option, Some, None}
 use Rattle.tokens.specs.Kind as kind
 use Rattle.tokens.specs.Token.{token_count, kind_at, spelled}
 use Rattle.tokens.proofs.TokenTable.{kind_in}
 use Rattle.numbers.specs.Number.{number_of}
 use Rattle.numbers.specs.declared.Number.{Number}
-use Rattle.numbers.specs.declared.Number.TheVariants.{Integer, Float, Neither}
+use Rattle.numbers.specs.declared.Number.TheVariants.{Integer, Float}
 use Rattle.refusals.specs.Refusal.{refusal_number}
 use Rattle.refusals.specs.declared.Refusal.{Refusal}
 use Rattle.refusals.specs.declared.Refusal.TheVariants.{NoRoom, NeedClose, NeedComma, NeedName, NeedNullOrNan}
@@ -185,11 +186,11 @@ module _ (text ts : List ℕ) (cap : ℕ) where
   unfolding postfixes
   postfixes_goes m = while_goes ts cap _ _ (λ at used x e. postfix_goes at used x (postfix_in ts at m e)) (suc (token_count ts))
 
-  numeral_goes : (n : Number) (at used : ℕ) → at < token_count ts → Goes ts cap 1 (before at used) (numeral text ts cap n at used)
+  numeral_goes : (n : Option Number) (at used : ℕ) → at < token_count ts → Goes ts cap 1 (before at used) (numeral text ts cap n at used)
   unfolding numeral arity_of
-  numeral_goes (Integer n) at used inside = leaf_goes _ at used refl inside
-  numeral_goes Float at used inside = leaf_goes _ at used refl inside
-  numeral_goes Neither at used inside = record { told = other ts cap refl }
+  numeral_goes (Some (Integer n)) at used inside = leaf_goes _ at used refl inside
+  numeral_goes (Some Float) at used inside = leaf_goes _ at used refl inside
+  numeral_goes None at used inside = record { told = other ts cap refl }
 
   column_goes : (at used : ℕ) → at < token_count ts → Goes ts cap 1 (before at used) (column text ts cap at used)
   unfolding column arity_of

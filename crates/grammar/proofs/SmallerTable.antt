@@ -14,11 +14,12 @@ use native.Mathlib.Omega.{arith}
 use native.Mathlib.Nat.{le_refl}
 use borrow.Author.Tests.{leb-true, leb-false}
 use lib.Dec.{eqb, leb, ltb}
+use Rattle.std.specs.Prelude.{Option, Some, None}
 use Rattle.tokens.specs.Kind as kind
 use Rattle.tokens.specs.Token.{token_count, kind_at, spelled}
 use Rattle.numbers.specs.Number.{number_of}
 use Rattle.numbers.specs.declared.Number.{Number}
-use Rattle.numbers.specs.declared.Number.TheVariants.{Integer, Float, Neither}
+use Rattle.numbers.specs.declared.Number.TheVariants.{Integer, Float}
 use Rattle.refusals.specs.declared.Refusal.{Refusal}
 use Rattle.refusals.specs.declared.Refusal.TheVariants.{NoRoom, NeedClose, NeedComma, NeedName, NeedNullOrNan}
 use Rattle.operators.specs.Operator.{binds, right_minimum, prefix_of}
@@ -147,11 +148,11 @@ module _ (text ts : List ℕ) (cap big : ℕ) (larger : cap ≤ big) where
   postfixes_limited m = while_limited _ _ _ postfix_limited
       (λ at used x e. postfix_goes text ts big at used x (postfix_in ts at m e)) (suc (token_count ts))
 
-  numeral_limited : (x : Number) (at used : ℕ) → used ≤ cap → Limited cap (T.numeral text ts cap x at used) (T.numeral text ts big x at used)
+  numeral_limited : (x : Option Number) (at used : ℕ) → used ≤ cap → Limited cap (T.numeral text ts cap x at used) (T.numeral text ts big x at used)
   unfolding T.numeral
-  numeral_limited (Integer n) at used le = due_limited (at + 1) used _ le
-  numeral_limited Float at used le = due_limited (at + 1) used _ le
-  numeral_limited Neither at used le = stopped cap
+  numeral_limited (Some (Integer n)) at used le = due_limited (at + 1) used _ le
+  numeral_limited (Some Float) at used le = due_limited (at + 1) used _ le
+  numeral_limited None at used le = stopped cap
 
   column_limited : (at used : ℕ) → used ≤ cap → Limited cap (T.column text ts cap at used) (T.column text ts big at used)
   unfolding T.column

@@ -1,12 +1,13 @@
 -- The reading rules with the row table passed along: what the inner functions promise. Rule by rule the text is that of Rules, with a row
 -- written where that builds a tree. No entry's promise names this file.
-use Rattle.std.specs.Prelude.{◌≡◌, ℕ, zero, suc, ◌+◌, ◌-◌, ◌*◌, List, Bool, true, false, eqb, ltb, leb}
+use Rattle.std.specs.Prelude.{◌≡◌, Result, Ok, Err, Option, Some, None, ℕ, zero, suc, ◌+◌, ◌-◌, ◌*◌, List, Bool, true, false, eqb, ltb, leb}
 use Rattle.std.proofs.lemmas.List.Edits.{sets}
 use Rattle.tokens.specs.Kind as kind
 use Rattle.tokens.specs.Token.{token_count, kind_at, spelled}
 use Rattle.numbers.specs.Number.{number_of}
 use Rattle.numbers.specs.declared.Number.{Number}
-use Rattle.numbers.specs.declared.Number.TheVariants.{Integer, Float, Neither}
+use Rattle.numbers.specs.declared.Number.TheVariants.{Integer, Float}
+use Rattle.refusals.specs.declared.Refused.{Refused}
 use Rattle.refusals.specs.declared.Refusal.{Refusal}
 use Rattle.refusals.specs.declared.Refusal.TheVariants.{End, NoAtom, LeftOver, BadNumber, TooDeep, NoRoom, NeedClose, NeedComma, NeedName, NeedNullOrNan}
 use Rattle.rows.specs.Layout.{width, numbers, capacity}
@@ -18,21 +19,19 @@ use Rattle.grammar.specs.Atom.{start_of}
 use Rattle.grammar.specs.declared.Start.{Start}
 use Rattle.grammar.specs.declared.Start.TheVariants as start
 use Rattle.grammar.specs.declared.Cursor.{Cursor}
-use Rattle.grammar.specs.declared.Step.{Step}
-use Rattle.grammar.specs.declared.Step.TheVariants.{Read, Refused}
 
 -- how far a reading has come, and the row table; or a refusal and its place
 pub data Out : Type 0 where
   done : Cursor → List ℕ → Out
   refuse : Refusal → ℕ → Out
 
--- what a step and the row table as it leaves it come to: the table counts only where the step read
-abbrev pub outcome : Step → List ℕ → Out
-outcome (Read c) t = done c t
-outcome (Refused why at) t = refuse why at
+-- what a step's answer and the row table as it leaves it come to: the table counts only where the step read
+abbrev pub outcome : Result Cursor Refused → List ℕ → Out
+outcome (Ok c) t = done c t
+outcome (Err e) t = refuse e.why e.place
 
--- the step r, which leaves the row table t, is what o says
-pub record Gives (o : Out) (r : Step) (t : List ℕ) : Type 0 where
+-- the answer r, with the row table t as it is left, is what o says
+pub record Gives (o : Out) (r : Result Cursor Refused) (t : List ℕ) : Type 0 where
   pub answer : outcome r t ≡ o
 
 -- and then
@@ -61,10 +60,10 @@ abbrev pub push_over_last : Label → Cursor → List ℕ → Out
 push_over_last l c t = push_row (row_over_one l (c.rows - 1)) c t
 
 -- a number, by what its bytes are
-unfoldable pub numeral : Number → Cursor → List ℕ → Out
-numeral (Integer n) c t = push_leaf (label row.integer n 0) c t
-numeral Float c t = push_leaf (label row.float c.at 0) c t
-numeral Neither c t = refuse BadNumber c.at
+unfoldable pub numeral : Option Number → Cursor → List ℕ → Out
+numeral (Some (Integer n)) c t = push_leaf (label row.integer n 0) c t
+numeral (Some Float) c t = push_leaf (label row.float c.at 0) c t
+numeral None c t = refuse BadNumber c.at
 
 -- a step, while there is one
 unfoldable pub while : (ℕ → Bool) → (Cursor → List ℕ → Out) → ℕ → Cursor → List ℕ → Out

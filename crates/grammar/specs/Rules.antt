@@ -1,11 +1,11 @@
 -- The reading rules (FORMAT §4): tokens to a tree, or to a refusal and its place. A node is made with `label kind x y`, the numbers of its row that are its
 -- own; those that name its operands or count them stand as 0.
-use Rattle.std.specs.Prelude.{ℕ, zero, suc, ◌+◌, List, Bool, true, false, eqb, ltb, leb}
+use Rattle.std.specs.Prelude.{Option, Some, None, ℕ, zero, suc, ◌+◌, List, Bool, true, false, eqb, ltb, leb}
 use Rattle.tokens.specs.Kind as kind
 use Rattle.tokens.specs.Token.{token_count, kind_at, spelled}
 use Rattle.numbers.specs.Number.{number_of}
 use Rattle.numbers.specs.declared.Number.{Number}
-use Rattle.numbers.specs.declared.Number.TheVariants.{Integer, Float, Neither}
+use Rattle.numbers.specs.declared.Number.TheVariants.{Integer, Float}
 use Rattle.refusals.specs.declared.Refusal.{Refusal}
 use Rattle.refusals.specs.declared.Refusal.TheVariants.{End, NoAtom, LeftOver, BadNumber, TooDeep, NoRoom, NeedClose, NeedComma, NeedName, NeedNullOrNan}
 use Rattle.rows.specs.Label.{label}
@@ -83,10 +83,10 @@ module _ (text ts : List ℕ) (cap : ℕ) where
   postfixes m = while (λ at. binds (postfix_of (kind_at ts at)) m) postfix (suc (token_count ts))
 
   -- a number, by what its bytes are
-  unfoldable pub numeral : Number → ℕ → ℕ → Reading
-  numeral (Integer n) at used = due (at + 1) used (leaf (label row.integer n 0))
-  numeral Float at used = due (at + 1) used (leaf (label row.float at 0))
-  numeral Neither at used = refuse BadNumber at
+  unfoldable pub numeral : Option Number → ℕ → ℕ → Reading
+  numeral (Some (Integer n)) at used = due (at + 1) used (leaf (label row.integer n 0))
+  numeral (Some Float) at used = due (at + 1) used (leaf (label row.float at 0))
+  numeral None at used = refuse BadNumber at
 
   -- name.name or name
   unfoldable pub column : ℕ → ℕ → Reading

@@ -1,9 +1,10 @@
-// The reading rules, as definitions and laws; and the types that `steps` and `reader` answer with.
+// The reading rules, as definitions and laws; and the types that `steps` and `reader` pass on.
 //
 // specs/ has the rules; docs/FORMAT.md has them in words.
 #![tactic(auto)]
 
-use refusals::Refusal;
+ghost use Rattle.std.specs.Prelude.{◌≡◌, ◌+◌, ◌^◌, ◌<◌};
+ghost use Rattle.grammar.specs.Memory.{past as past_of};
 
 // What an atom starts with. Plain is a whole atom: its row's kind, and x.
 #[derive(Clone, Copy)]
@@ -24,9 +25,15 @@ pub struct Cursor {
     pub rows: usize,
 }
 
-// What a step answers: where it came to, or a refusal and its place.
-#[derive(Clone, Copy)]
-pub enum Step {
-    Read(Cursor),
-    Refused(Refusal, usize),
+impl Cursor {
+    // Answers the cursor n tokens further on.
+    pub fn past(self, n: usize) -> Cursor
+        requires { self.at + n < 2 ^ 64 }
+        ensures { result ≡ past_of n self }
+    {
+        Cursor {
+            at: self.at + n,
+            rows: self.rows,
+        }
+    }
 }

@@ -9,7 +9,8 @@ ghost use Rattle.operators.specs.Operator.{infix_of, right_minimum, prefix_of, p
 use syntax::kind as row;
 use tokens::kind;
 
-// Answers the precedence of an infix operator, and 0 for any other kind. The compiler makes shorter code of these tests than of a `match`.
+// Answers the precedence of an infix operator, and 0 for any other kind: a number and no Option, since a request for a quicker look-up leaves the
+// promise and the callers word for word. The compiler makes shorter code of these tests than of a `match`.
 #[tactic(auto, unfolding(crate::specs::Operator::infix_of, crate::specs::Operator::among))]
 pub fn infix_precedence(k: u32) -> u32
     ensures { result ≡ (infix_of k).precedence }
@@ -52,17 +53,20 @@ pub fn infix_precedence(k: u32) -> u32
 }
 
 // Answers the minimum for what stands to the right of an infix operator: one more than its precedence, but for `^` its own.
+#[tactic(auto, using(crate::proofs::Among::infix_precedence_at_most_8), unfolding(crate::specs::Operator::right_minimum))]
 pub fn right_minimum(k: u32) -> u32
     ensures { result ≡ right_minimum k }
 {
     let precedence = infix_precedence(k);
     if k == kind::CARET {
-        return precedence;
+        precedence
+    } else {
+        precedence + 1
     }
-    precedence + 1
 }
 
-// Answers the kind of an infix operator's row, and 0 for any other kind.
+// Answers the kind of an infix operator's row, and 0 for any other kind. An Option would be no plainer: who calls has seen an operator, and would
+// have a None to answer for that never comes.
 #[tactic(auto, unfolding(crate::specs::Operator::infix_of, crate::specs::Operator::among))]
 pub fn infix_row(k: u32) -> u64
     ensures { result ≡ (infix_of k).row }
@@ -71,8 +75,7 @@ pub fn infix_row(k: u32) -> u64
         kind::OR => row::OR,
         kind::AND => row::AND,
         kind::EQUAL => row::EQUAL,
-        kind::NOT_EQUAL => row::NOT_EQUAL,
-        kind::LESS_OR_GREATER_THAN => row::NOT_EQUAL,
+        kind::NOT_EQUAL | kind::LESS_OR_GREATER_THAN => row::NOT_EQUAL,
         kind::LIKE => row::LIKE,
         kind::GREATER_THAN => row::GREATER_THAN,
         kind::GREATER_THAN_OR_EQUAL => row::GREATER_THAN_OR_EQUAL,
@@ -88,20 +91,19 @@ pub fn infix_row(k: u32) -> u64
     }
 }
 
-// Answers the precedence of a prefix operator, and 0 for any other kind.
+// Answers the precedence of a prefix operator, and 0 for any other kind, as for an infix one.
 #[tactic(auto, unfolding(crate::specs::Operator::prefix_of, crate::specs::Operator::among))]
 pub fn prefix_precedence(k: u32) -> u32
     ensures { result ≡ (prefix_of k).precedence }
 {
     match k {
-        kind::PLUS => 10,
-        kind::MINUS => 10,
+        kind::PLUS | kind::MINUS => 10,
         kind::NOT => 3,
         _ => 0,
     }
 }
 
-// Answers the kind of a prefix operator's row, and 0 for any other kind.
+// Answers the kind of a prefix operator's row, and 0 for any other kind, as for an infix one.
 #[tactic(auto, unfolding(crate::specs::Operator::prefix_of, crate::specs::Operator::among))]
 pub fn prefix_row(k: u32) -> u64
     ensures { result ≡ (prefix_of k).row }
@@ -114,7 +116,7 @@ pub fn prefix_row(k: u32) -> u64
     }
 }
 
-// Answers the precedence of a postfix operator, and 0 for any other kind.
+// Answers the precedence of a postfix operator, and 0 for any other kind, as for an infix one.
 #[tactic(auto, unfolding(crate::specs::Operator::postfix_of, crate::specs::Operator::among))]
 pub fn postfix_precedence(k: u32) -> u32
     ensures { result ≡ postfix_of k }
@@ -127,12 +129,9 @@ pub fn postfix_precedence(k: u32) -> u32
 }
 
 // Tells if this is the precedence of an operator, and at least the minimum.
+#[tactic(auto, unfolding(crate::specs::Operator::binds))]
 pub fn binds(precedence: u32, min: u32) -> bool
     ensures { result ≡ binds_of precedence min }
 {
-    if 0 < precedence {
-        min <= precedence
-    } else {
-        false
-    }
+    0 < precedence && min <= precedence
 }
