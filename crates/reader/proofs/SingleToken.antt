@@ -1,19 +1,20 @@
 -- The shortcut says what the general way says: where an operand is one token alone, the expression there is what that token is read as
--- (`single_token_expression`). Before it the cases of the shortcut's tests, as the functions tell them apart.
+-- (`single_token_expression`). Before it what each kind of token is read as.
 -- Assumes nothing.
 use mathlib.Core.Path.{◌≡◌, refl, sym, ap, ◌∙◌}
 use mathlib.Core.Bool.{Bool, true, false, not, ◌&&◌, ◌||◌}
 use mathlib.Core.List.{List}
 use Prim.Native.Nat.{ℕ, suc, ◌+◌, ◌-◌, ◌<◌}
 use native.Mathlib.Omega.{arith}
-use borrow.Author.Tests.{eq-eqb, ne_eqb, eqb-true, eqb-false, lt-ltb, ltb-true, leb-true, leb-false, not-true}
+use borrow.Author.Tests.{eq-eqb, ne_eqb, eqb-true, eqb-false, ltb-true, leb-true, leb-false, not-true}
 use lib.Dec.{eqb, ltb, leb}
+use Rattle.std.specs.Prelude.{Option, Some, None}
 use Rattle.tokens.specs.Kind as kind
 use Rattle.tokens.specs.Token.{token_count, kind_at, spelled}
 use Rattle.tokens.proofs.TokenTable.{kind_in}
 use Rattle.numbers.specs.Number.{number_of}
 use Rattle.numbers.specs.declared.Number.{Number}
-use Rattle.numbers.specs.declared.Number.TheVariants.{Integer, Float, Neither}
+use Rattle.numbers.specs.declared.Number.TheVariants.{Integer, Float}
 use Rattle.rows.specs.Layout.{capacity}
 use Rattle.rows.specs.Label.{Label, label, leaf_row}
 use Rattle.syntax.specs.Kind as row
@@ -27,38 +28,7 @@ use Rattle.grammar.proofs.Loops.{while_off, one_less}
 use Rattle.grammar.proofs.RuleCases.{push_full, push_room, named_column, column_plain, prefix_off, atom_by}
 use Rattle.reader.specs.Shortcut.{may_follow_operand, starts_leaf, single_token_operand, single_token}
 
--- ---- the cases of the tests
-
-module _ (k m : ℕ) (paren : k ≡ kind.open_paren → ⊥) (period : k ≡ kind.period → ⊥) where
-  pub may_follow_infix : binds (infix_of k).precedence m ≡ true → may_follow_operand k m ≡ true
-  unfolding may_follow_operand
-  may_follow_infix is = rw (ne_eqb k kind.open_paren paren, ne_eqb k kind.period period, is)
-
-  pub may_follow_postfix : binds (infix_of k).precedence m ≡ false → may_follow_operand k m ≡ binds (postfix_of k) m
-  unfolding may_follow_operand
-  may_follow_postfix none = rw (ne_eqb k kind.open_paren paren, ne_eqb k kind.period period, none)
-
-pub starts_no_leaf : (k : ℕ) → (k ≡ kind.number → ⊥) → (k ≡ kind.string → ⊥) → (k ≡ kind.ident → ⊥) → starts_leaf k ≡ false
-unfolding starts_leaf
-starts_no_leaf k number string ident = rw (ne_eqb k kind.number number, ne_eqb k kind.string string, ne_eqb k kind.ident ident)
-
-module _ (ts : List ℕ) (levels m at : ℕ) where
-  pub single_without_level : levels ≡ 0 → single_token_operand ts levels m at ≡ false
-  unfolding single_token_operand
-  single_without_level none = rw none
-
-  pub single_without_leaf : starts_leaf (kind_at ts at) ≡ false → single_token_operand ts levels m at ≡ false
-  unfolding single_token_operand
-  single_without_leaf none = rw none (by (ltb 0 levels))
-    where
-      by : (b : Bool) → (b && false) ≡ false
-      by true = refl
-      by false = refl
-
-  pub single_with_leaf : 0 < levels → starts_leaf (kind_at ts at) ≡ true →
-      single_token_operand ts levels m at ≡ not (may_follow_operand (kind_at ts (at + 1)) m)
-  unfolding single_token_operand
-  single_with_leaf some leaf = rw (lt-ltb 0 levels some, leaf)
+-- ---- the cases of the token's kind
 
 module _ (ts text : List ℕ) (c : Cursor) (t : List ℕ) where
   pub single_number : kind_at ts c.at ≡ kind.number → single_token ts text c t ≡ numeral (number_of (spelled text ts c.at)) c t
@@ -113,11 +83,11 @@ module _ (text ts : List ℕ) (levels m : ℕ) (c : Cursor) (t : List ℕ) (alon
       by true full = rw (push_full (leaf_row l) (past 1 c) t (leb-true _ _ full)) refl
       by false room = rw (push_room (leaf_row l) (past 1 c) t (leb-false _ _ room)) (nothing_follows _ _ refl)
 
-  number_alone : (x : Number) → then (numeral x c t) rest ≡ numeral x c t
+  number_alone : (x : Option Number) → then (numeral x c t) rest ≡ numeral x c t
   unfolding numeral then
-  number_alone (Integer n) = leaf_alone (label row.integer n 0)
-  number_alone Float = leaf_alone (label row.float c.at 0)
-  number_alone Neither = refl
+  number_alone (Some (Integer n)) = leaf_alone (label row.integer n 0)
+  number_alone (Some Float) = leaf_alone (label row.float c.at 0)
+  number_alone None = refl
 
   by_atom : (o : Out) → binds (prefix_of (kind_at ts c.at)).precedence m ≡ false →
       atom text ts (expression text ts levels) (start_of (kind_at ts c.at)) c t ≡ o → then o rest ≡ o → expression text ts (suc levels) m c t ≡ o

@@ -20,8 +20,8 @@ ghost use Rattle.reader.specs.Level.{operand as operand_of, atom as atom_of, gro
 ghost use Rattle.reader.specs.Level.{argument as argument_of, infixes as infixes_of, infixed as infixed_of};
 
 use crate::shortcut::{any_postfixes, single_token, single_token_operand};
-use grammar::{Cursor, Start, Step};
-use refusals::Refusal;
+use grammar::{Cursor, Start};
+use refusals::{Refusal, Refused};
 use rows::Row;
 use steps::atom::{column, numeral, start_of};
 use steps::postfix::{postfix_at, postfixes};
@@ -33,6 +33,7 @@ use tokens::table::kind_at;
 
 // Reads an expression at the minimum `min`, with so many levels left: the steps of docs/FORMAT.md §4.4.
 #[cycle(reading)]
+#[tactic(auto, using(grammar::proofs::Answers::goes_on, grammar::proofs::RuleCases::expression_none, grammar::proofs::RuleCases::expression_level, grammar::proofs::Loops::while_off), unfolding(grammar::specs::Memory::level, grammar::specs::Memory::postfixes))]
 pub fn expression(
     text: &[u8],
     tokens: &[u32],
@@ -40,125 +41,116 @@ pub fn expression(
     c: Cursor,
     levels: usize,
     min: u32,
-) -> Step
+) -> Result<Cursor, Refused>
     requires { c.at ≤ token_count tokens.now }
     ensures { Gives (expression_of text.now tokens.now levels min c rows.old) result rows.new }
 {
-    let at = c.at;
     if levels == 0 {
-        return Step::Refused(Refusal::TooDeep, at);
+        return Err(Refusal::TooDeep.at(c.at));
     }
     let rest = levels - 1;
     // (a) A prefix operator with its operand, or an atom.
-    let first = operand(text, tokens, rows, c, rest, min);
-    let Step::Read(after_operand) = first else {
-        return first;
-    };
+    let after_operand = operand(text, tokens, rows, c, rest, min)?;
     // (b) Postfix operators.
-    let second = any_postfixes(tokens, rows, after_operand, min);
-    let Step::Read(after_postfixes) = second else {
-        return second;
-    };
+    let after_postfixes = any_postfixes(tokens, rows, after_operand, min)?;
     // (c) Infix operators, each with its right side.
-    let third = infixes(text, tokens, rows, after_postfixes, rest, min);
-    let Step::Read(after_infixes) = third else {
-        return third;
-    };
+    let after_infixes = infixes(text, tokens, rows, after_postfixes, rest, min)?;
     // (d) Postfix operators once more. This is `any_postfixes` written out: called twice it would stay a call.
-    let end = after_infixes.at;
+    let at = after_infixes.at;
     let n = after_infixes.rows;
-    if !postfix_at(tokens, end, min) {
-        return Step::Read(Cursor { at: end, rows: n });
+    if !postfix_at(tokens, at, min) {
+        return Ok(Cursor { at, rows: n });
     }
-    postfixes(&*tokens, rows, Cursor { at: end, rows: n }, min)
+    postfixes(&*tokens, rows, Cursor { at, rows: n }, min)
 }
 
 // Reads a prefix operator of at least `min` with its operand, or else an atom.
 #[cycle(reading)]
-fn operand(text: &[u8], tokens: &[u32], rows: &mut [u64], c: Cursor, rest: usize, min: u32) -> Step
+#[tactic(auto, using(grammar::proofs::Answers::goes_on), unfolding(grammar::specs::Memory::operand))]
+fn operand(
+    text: &[u8],
+    tokens: &[u32],
+    rows: &mut [u64],
+    c: Cursor,
+    rest: usize,
+    min: u32,
+) -> Result<Cursor, Refused>
     requires { c.at ≤ token_count tokens.now }
     ensures { Gives (operand_of text.now tokens.now rest min c rows.old) result rows.new }
 {
-    let at = c.at;
-    let n = c.rows;
-    let k = kind_at(tokens, at);
+    let k = kind_at(tokens, c.at);
     let precedence = operators::prefix_precedence(k);
     if !operators::binds(precedence, min) {
         return atom(text, tokens, rows, c, rest);
     }
-    let after = at + 1;
-    let s = expression(
-        &*text,
-        &*tokens,
-        rows,
-        Cursor { at: after, rows: n },
-        rest,
-        precedence,
-    );
-    let Step::Read(d) = s else {
-        return s;
-    };
+    let d = expression(&*text, &*tokens, rows, c.past(1), rest, precedence)?;
     push_over_last(rows, d, operators::prefix_row(k), 0)
 }
 
 // Reads an atom, by what its token starts.
 #[cycle(reading)]
-fn atom(text: &[u8], tokens: &[u32], rows: &mut [u64], c: Cursor, rest: usize) -> Step
+#[tactic(auto, unfolding(grammar::specs::Memory::atom))]
+fn atom(
+    text: &[u8],
+    tokens: &[u32],
+    rows: &mut [u64],
+    c: Cursor,
+    rest: usize,
+) -> Result<Cursor, Refused>
     requires { c.at ≤ token_count tokens.now }
     ensures { Gives (atom_of text.now tokens.now rest c rows.old) result rows.new }
 {
-    let at = c.at;
-    match start_of(kind_at(tokens, at)) {
-        Start::Nothing => Step::Refused(Refusal::End, at),
+    match start_of(kind_at(tokens, c.at)) {
+        Start::Nothing => Err(Refusal::End.at(c.at)),
         Start::Number => numeral(&*text, &*tokens, rows, c),
-        Start::Text => push_leaf(rows, c, row::STRING, at as u64),
+        Start::Text => push_leaf(rows, c, row::STRING, c.at as u64),
         Start::Name => named(text, tokens, rows, c, rest),
         Start::Paren => group(text, tokens, rows, c, rest),
         Start::Plain(kind, x) => push_leaf(rows, c, kind, x),
-        Start::Other => Step::Refused(Refusal::NoAtom, at),
+        Start::Other => Err(Refusal::NoAtom.at(c.at)),
     }
 }
 
 // Reads an expression in parentheses.
 #[cycle(reading)]
-fn group(text: &[u8], tokens: &[u32], rows: &mut [u64], c: Cursor, rest: usize) -> Step
+#[tactic(auto, using(grammar::proofs::Answers::goes_on), unfolding(grammar::specs::Memory::group))]
+fn group(
+    text: &[u8],
+    tokens: &[u32],
+    rows: &mut [u64],
+    c: Cursor,
+    rest: usize,
+) -> Result<Cursor, Refused>
     requires { c.at < token_count tokens.now }
     ensures { Gives (group_of text.now tokens.now rest c rows.old) result rows.new }
 {
-    let n = c.rows;
-    let after = c.at + 1;
-    let s = expression(
-        &*text,
-        &*tokens,
-        rows,
-        Cursor { at: after, rows: n },
-        rest,
-        0,
-    );
-    let Step::Read(d) = s else {
-        return s;
-    };
+    let d = expression(&*text, &*tokens, rows, c.past(1), rest, 0)?;
     need(tokens, d, kind::CLOSE_PAREN, Refusal::NeedClose)
 }
 
 // Reads a name: a function, where a parenthesis opens after it, else a column.
 #[cycle(reading)]
-fn named(text: &[u8], tokens: &[u32], rows: &mut [u64], c: Cursor, rest: usize) -> Step
+#[tactic(auto, unfolding(grammar::specs::Memory::named))]
+fn named(
+    text: &[u8],
+    tokens: &[u32],
+    rows: &mut [u64],
+    c: Cursor,
+    rest: usize,
+) -> Result<Cursor, Refused>
     requires { c.at < token_count tokens.now }
     ensures { Gives (named_of text.now tokens.now rest c rows.old) result rows.new }
 {
-    let at = c.at;
-    let n = c.rows;
-    let after = at + 1;
-    if kind_at(tokens, after) != kind::OPEN_PAREN {
+    if kind_at(tokens, c.at + 1) != kind::OPEN_PAREN {
         return column(tokens, rows, c);
     }
-    let first = at + 2;
-    arguments(text, tokens, rows, Cursor { at: first, rows: n }, rest, at)
+    arguments(text, tokens, rows, c.past(2), rest, c.at)
 }
 
 // Reads the arguments of the function that token `name` names, up to the closing parenthesis, and writes the function's row.
+// The loop goes by the cursor; `n` only counts its turns, so there is no range or slice for a `for`.
 #[cycle(reading)]
+#[tactic(auto, using(grammar::proofs::Answers::goes_on, grammar::proofs::RuleCases::arguments_end, grammar::proofs::RuleCases::arguments_on))]
 fn arguments(
     text: &[u8],
     tokens: &[u32],
@@ -166,57 +158,51 @@ fn arguments(
     start: Cursor,
     rest: usize,
     name: usize,
-) -> Step
+) -> Result<Cursor, Refused>
     requires { start.at ≤ token_count tokens.now }
     ensures { Gives (arguments_of text.now tokens.now rest name start rows.old) result rows.new }
 {
     let mut c = start;
     let mut n = 0usize;
-    loop {
-        let at = c.at;
-        let used = c.rows;
-        if kind_at(tokens, at) == kind::CLOSE_PAREN {
-            let after = at + 1;
-            return push_row(
-                rows,
-                Cursor {
-                    at: after,
-                    rows: used,
-                },
-                Row {
-                    kind: row::FUNCTION,
-                    x: name as u64,
-                    y: n as u64,
-                },
-            );
-        }
-        let s = argument(text, tokens, rows, c, rest, n);
-        let Step::Read(next) = s else {
-            return s;
-        };
-        c = next;
+    while kind_at(tokens, c.at) != kind::CLOSE_PAREN {
+        c = argument(text, tokens, rows, c, rest, n)?;
         n += 1;
     }
+    push_row(
+        rows,
+        c.past(1),
+        Row {
+            kind: row::FUNCTION,
+            x: name as u64,
+            y: n as u64,
+        },
+    )
 }
 
 // Reads an argument, after a comma if it is not the first.
 #[cycle(reading)]
-fn argument(text: &[u8], tokens: &[u32], rows: &mut [u64], c: Cursor, rest: usize, n: usize) -> Step
+#[tactic(auto, using(grammar::proofs::Answers::goes_on), unfolding(grammar::specs::Memory::argument))]
+fn argument(
+    text: &[u8],
+    tokens: &[u32],
+    rows: &mut [u64],
+    c: Cursor,
+    rest: usize,
+    n: usize,
+) -> Result<Cursor, Refused>
     requires { c.at ≤ token_count tokens.now }
     ensures { Gives (argument_of text.now tokens.now rest n c rows.old) result rows.new }
 {
     if n == 0 {
         return expression(&*text, &*tokens, rows, c, rest, 0);
     }
-    let s = need(tokens, c, kind::COMMA, Refusal::NeedComma);
-    let Step::Read(d) = s else {
-        return s;
-    };
+    let d = need(tokens, c, kind::COMMA, Refusal::NeedComma)?;
     expression(&*text, &*tokens, rows, d, rest, 0)
 }
 
 // Reads the infix operators of at least `min` with their right sides, while there are any.
 #[cycle(reading)]
+#[tactic(auto, using(grammar::proofs::Answers::goes_on, grammar::proofs::Loops::while_on, grammar::proofs::Loops::while_off), unfolding(grammar::specs::Memory::infixes))]
 fn infixes(
     text: &[u8],
     tokens: &[u32],
@@ -224,22 +210,15 @@ fn infixes(
     start: Cursor,
     rest: usize,
     min: u32,
-) -> Step
+) -> Result<Cursor, Refused>
     requires { (start.at ≤ token_count tokens.now) × (0 < start.rows) }
     ensures { Gives (infixes_of text.now tokens.now rest min start rows.old) result rows.new }
 {
     let mut c = start;
-    loop {
-        let at = c.at;
-        if !infix_at(tokens, at, min) {
-            return Step::Read(c);
-        }
-        let s = infixed(text, tokens, rows, c, rest);
-        let Step::Read(next) = s else {
-            return s;
-        };
-        c = next;
+    while infix_at(tokens, c.at, min) {
+        c = infixed(text, tokens, rows, c, rest)?;
     }
+    Ok(c)
 }
 
 // Tells if the token at `at` is an infix operator of at least `min`.
@@ -251,26 +230,27 @@ fn infix_at(tokens: &[u32], at: usize, min: u32) -> bool
 
 // Reads an infix operator, after its left side, with its right side.
 #[cycle(reading)]
-fn infixed(text: &[u8], tokens: &[u32], rows: &mut [u64], c: Cursor, rest: usize) -> Step
+#[tactic(auto, using(grammar::proofs::Answers::goes_on), unfolding(grammar::specs::Memory::infixed))]
+fn infixed(
+    text: &[u8],
+    tokens: &[u32],
+    rows: &mut [u64],
+    c: Cursor,
+    rest: usize,
+) -> Result<Cursor, Refused>
     requires { (c.at < token_count tokens.now) × (0 < c.rows) }
     ensures { Gives (infixed_of text.now tokens.now rest c rows.old) result rows.new }
 {
-    let at = c.at;
-    let n = c.rows;
-    let k = kind_at(tokens, at);
-    let left = n - 1;
-    let after = at + 1;
-    let s = right_side(
+    let k = kind_at(tokens, c.at);
+    let left = c.rows - 1;
+    let end = right_side(
         text,
         tokens,
         rows,
-        Cursor { at: after, rows: n },
+        c.past(1),
         rest,
         operators::right_minimum(k),
-    );
-    let Step::Read(end) = s else {
-        return s;
-    };
+    )?;
     let right = end.rows - 1;
     push_row(
         rows,
@@ -292,12 +272,11 @@ fn right_side(
     c: Cursor,
     levels: usize,
     min: u32,
-) -> Step
+) -> Result<Cursor, Refused>
     requires { c.at ≤ token_count tokens.now }
     ensures { Gives (expression_of text.now tokens.now levels min c rows.old) result rows.new }
 {
-    let at = c.at;
-    if single_token_operand(tokens, at, levels, min) {
+    if single_token_operand(tokens, c.at, levels, min) {
         return single_token(text, tokens, rows, c);
     }
     expression(&*text, &*tokens, rows, c, levels, min)

@@ -7,9 +7,9 @@ ghost use Rattle.grammar.specs.Memory.{Gives, numeral as numeral_of, column as c
 
 use crate::push::{push_leaf, push_row};
 use crate::token::need;
-use grammar::{Cursor, Start, Step};
+use grammar::{Cursor, Start};
 use numbers::Number;
-use refusals::Refusal;
+use refusals::{Refusal, Refused};
 use rows::Row;
 use syntax::kind as row;
 use tokens::table::kind_at;
@@ -37,46 +37,35 @@ pub fn start_of(k: u32) -> Start
 }
 
 // Reads a number, by its spelling: an Integer's row has its value, a Float's its token.
-pub fn numeral(text: &[u8], tokens: &[u32], rows: &mut [u64], c: Cursor) -> Step
+#[tactic(auto, unfolding(grammar::specs::Memory::numeral))]
+pub fn numeral(text: &[u8], tokens: &[u32], rows: &mut [u64], c: Cursor) -> Result<Cursor, Refused>
     requires { c.at < token_count tokens.now }
     ensures { Gives (numeral_of (number_of (spelled text.now tokens.now c.at)) c rows.old) result rows.new }
 {
-    let at = c.at;
-    match numbers::number_of(table::spelled(text, tokens, at)) {
-        Number::Integer(n) => push_leaf(rows, c, row::INTEGER, n),
-        Number::Float => push_leaf(rows, c, row::FLOAT, at as u64),
-        Number::Neither => Step::Refused(Refusal::BadNumber, at),
+    match numbers::number_of(table::spelled(text, tokens, c.at)) {
+        Some(Number::Integer(n)) => push_leaf(rows, c, row::INTEGER, n),
+        Some(Number::Float) => push_leaf(rows, c, row::FLOAT, c.at as u64),
+        None => Err(Refusal::BadNumber.at(c.at)),
     }
 }
 
 // Reads a column: name.name or name.
-pub fn column(tokens: &[u32], rows: &mut [u64], c: Cursor) -> Step
+#[tactic(auto, using(grammar::proofs::Answers::goes_on), unfolding(grammar::specs::Memory::column))]
+pub fn column(tokens: &[u32], rows: &mut [u64], c: Cursor) -> Result<Cursor, Refused>
     requires { c.at < token_count tokens.now }
     ensures { Gives (column_of tokens.now c rows.old) result rows.new }
 {
-    let at = c.at;
-    let n = c.rows;
-    let after = at + 1;
-    if kind_at(tokens, after) != kind::PERIOD {
-        return push_leaf(rows, c, row::COLUMN, at as u64);
+    if kind_at(tokens, c.at + 1) != kind::PERIOD {
+        return push_leaf(rows, c, row::COLUMN, c.at as u64);
     }
-    let name = at + 2;
-    let s = need(
-        tokens,
-        Cursor { at: name, rows: n },
-        kind::IDENT,
-        Refusal::NeedName,
-    );
-    let Step::Read(d) = s else {
-        return s;
-    };
+    let d = need(tokens, c.past(2), kind::IDENT, Refusal::NeedName)?;
     push_row(
         rows,
         d,
         Row {
             kind: row::QUALIFIED,
-            x: at as u64,
-            y: name as u64,
+            x: c.at as u64,
+            y: (c.at + 2) as u64,
         },
     )
 }

@@ -37,19 +37,19 @@ abbrev pub decreases-right_side : goal.decreases-right_side
 decreases-right_side l = 8 * l.levels + 1
 
 -- in the arguments: what is to come from here is what was to come from the start, and there are no more arguments than tokens
-abbrev pub invariant-arguments-loop-c : goal.invariant-arguments-loop-c
-invariant-arguments-loop-c l =
+abbrev pub invariant-arguments-loop-rows : goal.invariant-arguments-loop-rows
+invariant-arguments-loop-rows l =
     Turning (M.arguments l.text l.tokens (M.expression l.text l.tokens l.rest) l.name l.n)
     (M.arguments l.text l.tokens (M.expression l.text l.tokens l.rest) l.name 0 (M.fuel l.tokens) l.initial.c l.initial.rows) l.tokens l.initial.rows l.c l.rows
     × (l.n ≤ l.c.at)
 
 -- the measure is how many tokens are left
-abbrev pub decreases-arguments-loop-c : goal.decreases-arguments-loop-c
-decreases-arguments-loop-c l = token_count l.tokens - l.c.at
+abbrev pub decreases-arguments-loop-rows : goal.decreases-arguments-loop-rows
+decreases-arguments-loop-rows l = token_count l.tokens - l.c.at
 
 -- in the infix operators: what is to come from here is what was to come from the start, and a row is written
-abbrev pub invariant-infixes-loop-c : goal.invariant-infixes-loop-c
-invariant-infixes-loop-c l =
+abbrev pub invariant-infixes-loop-rows : goal.invariant-infixes-loop-rows
+invariant-infixes-loop-rows l =
     Turning
     (M.while (λ (at : ℕ). binds (infix_of (kind_at l.tokens at)).precedence l.min)
     (M.infixed l.text l.tokens (M.expression l.text l.tokens l.rest)))
@@ -57,5 +57,5 @@ invariant-infixes-loop-c l =
     × (0 < l.c.rows)
 
 -- the measure is how many tokens are left
-abbrev pub decreases-infixes-loop-c : goal.decreases-infixes-loop-c
-decreases-infixes-loop-c l = token_count l.tokens - l.c.at
+abbrev pub decreases-infixes-loop-rows : goal.decreases-infixes-loop-rows
+decreases-infixes-loop-rows l = token_count l.tokens - l.c.at

@@ -7,11 +7,11 @@ use Rattle.grammar.specs.Memory.{while, postfix, postfixes}
 use Rattle.grammar.proofs.Loops.{Turning}
 use Rattle.steps.proofs.postfix.postfixes.Given as goal
 
-abbrev pub invariant-loop-c : goal.invariant-loop-c
-invariant-loop-c l =
+abbrev pub invariant-loop-rows : goal.invariant-loop-rows
+invariant-loop-rows l =
     Turning (while (λ (at : ℕ). binds (postfix_of (kind_at l.tokens at)) l.min) (postfix l.tokens))
     (postfixes l.tokens l.min l.initial.c l.initial.rows) l.tokens l.initial.rows l.c l.rows
     × (0 < l.c.rows)
 
-abbrev pub decreases-loop-c : goal.decreases-loop-c
-decreases-loop-c l = token_count l.tokens - l.c.at
+abbrev pub decreases-loop-rows : goal.decreases-loop-rows
+decreases-loop-rows l = token_count l.tokens - l.c.at
