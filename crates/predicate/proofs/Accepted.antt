@@ -1,7 +1,7 @@
 -- What accepted rows are (`Accepted`): every row is good, and the tree is the one at the last row. So the check keeps its promise (`checks`).
 -- Assumes nothing.
 use Prim.Native.Nat.{ℕ, zero, suc, ◌+◌, ◌*◌, ◌-◌, ◌%◌, ◌<◌, ◌≤◌}
-use mathlib.Core.Path.{◌≡◌, refl, sym, ap, ◌∙◌, subst}
+use mathlib.Core.Path.{◌≡◌, refl, sym, ap, ap₂, ◌∙◌, subst}
 use mathlib.Core.Bool.{Bool, true, false, ◌||◌}
 use mathlib.Core.List.{List, [], ◌∷◌}
 use native.Mathlib.Decide.{ℕ_discrete}
@@ -10,16 +10,18 @@ use native.Mathlib.Omega.{arith}
 use lib.ListN.{length}
 use lib.Dec.{ltb}
 use borrow.Author.Tests.{ltb-false, eqb-true}
+use Rattle.std.proofs.lemmas.Bool.{or_parts}
+use Rattle.std.specs.Prelude.{Result, Ok, Err}
 use Rattle.limits.specs.Limits.{text_max, rows_max}
+use Rattle.refusals.specs.Refusal.{refused as refusal_at}
 use Rattle.refusals.specs.declared.Refusal.{Refusal}
+use Rattle.refusals.specs.declared.Refused.{Refused}
 use Rattle.rows.specs.Layout.{width, row_count, only_whole}
 use Rattle.rows.specs.PostOrder.{Subtree, Next}
 use Rattle.predicate.specs.Row.{shape_at, arity_of}
 use Rattle.predicate.specs.Tree.{Tree, root_of, tree_at, first_at, Falls, Sound}
 use Rattle.predicate.specs.Read.{Reading, one, refused, ended, and_then, read_from, read_rows, checked_of, Rooted, Checks}
 use Rattle.predicate.specs.Check.{SoundBefore, good_at}
-use Rattle.predicate.specs.declared.Checked.{Checked}
-use Rattle.predicate.specs.declared.Checked.TheVariants.{Root, Refused}
 use Rattle.predicate.proofs.Trees.{root_at}
 use Rattle.predicate.proofs.Stacks.{Tiles, step_is}
 use Rattle.predicate.proofs.CheckLoop.{by_tests}
@@ -105,18 +107,13 @@ module _ (text l : List ℕ) (t : Tree) where
         (sym (by_tests text l false true d f) ∙ e)) in
         record {
           some = z.some;
-          small = ltb-false rows_max (row_count l) (second (ltb text_max (length text)) (ltb rows_max (row_count l)) d);
+          small = ltb-false rows_max (row_count l) (or_parts (ltb text_max (length text)) (ltb rows_max (row_count l)) d).1;
           even = omega (arith, eqb-true (length l % width) 0 f, div-add-mod' (length l) width);
           good = z.good;
           sound = record { there = omega (arith, z.some); falls = λ q k. z.falls q (omega (arith, z.some)) };
           first = z.first;
           tree = z.tree;
         }
-      where
-        second : (p q : Bool) → (p || q) ≡ false → q ≡ false
-        second true true g = g
-        second true false g = refl
-        second false q g = g
 
     pub accepted : Accepted text l t
     accepted = all_tests (ltb text_max (length text) || ltb rows_max (row_count l)) (only_whole l) refl refl
@@ -135,14 +132,16 @@ module _ (text l : List ℕ) where
         low = omega (arith, a.some, a.small);
       }
 
-  pub checks : {v : Checked} → v ≡ checked_of (read_rows text l) → Checks text l v
+  pub checks : {v : Result ℕ Refused} → v ≡ checked_of (read_rows text l) → Checks text l v
   unfolding checked_of
   checks {v} e = record { answer = e; good = λ root d. good (read_rows text l) root refl (sym e ∙ d); bad = λ why place d. bad (read_rows text l) (sym e ∙ d) }
     where
-      good : (r : Reading) (root : ℕ) → read_rows text l ≡ r → checked_of r ≡ Root root → Rooted text l root
+      good : (r : Reading) (root : ℕ) → read_rows text l ≡ r → checked_of r ≡ Ok root → Rooted text l root
       good (one t) root f d = let same : root_of t ≡ root = cc in subst (Rooted text l) same (rooted t f)
       good (refused why place) root f d = let z : ◌≡◌ {A = ℕ} 0 1 = cc in absurd (omega arith)
 
-      bad : (r : Reading) {why : Refusal} {place : ℕ} → checked_of r ≡ Refused why place → r ≡ refused why place
+      bad : (r : Reading) {why : Refusal} {place : ℕ} → checked_of r ≡ Err (refusal_at why place) → r ≡ refused why place
       bad (one t) d = let z : ◌≡◌ {A = ℕ} 0 1 = cc in absurd (omega arith)
-      bad (refused why place) d = cc
+      bad (refused why' place') {why} {place} d =
+          let same : refusal_at why' place' ≡ refusal_at why place = cc in
+          ap₂ refused (ap (λ (w : Refused). w.why) same) (ap (λ (w : Refused). w.place) same)

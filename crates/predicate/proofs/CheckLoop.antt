@@ -1,6 +1,6 @@
 -- The row check's loop. After r good rows the reading stands before row r over some stack (`Reads`); a good row takes it on (`goes`), a bad one
 -- ends it (`stops`), and after the last row there is no row (`no_rows`), one root (`one_root`) or several (`several_roots`). Before the first row
--- stand the tests of the lengths (`long_text`, `long_rows`, `ragged`, `in_turn`).
+-- stand the tests of the lengths (`by_tests`, `in_turn`).
 -- Assumes nothing.
 use Prim.Native.Nat.{ℕ, suc, ◌+◌, ◌-◌, ◌<◌, ◌≤◌}
 use mathlib.Core.Path.{◌≡◌, refl, sym, ap, ap₂, ◌∙◌}
@@ -9,8 +9,10 @@ use mathlib.Core.List.{List, [], ◌∷◌}
 use native.Mathlib.Omega.{arith}
 use lib.ListN.{length}
 use lib.Dec.{ltb}
-use borrow.Author.Tests.{lt-ltb, le-ltb}
+use borrow.Author.Tests.{le-ltb}
+use Rattle.std.specs.Prelude.{Ok, Err}
 use Rattle.limits.specs.Limits.{text_max, rows_max}
+use Rattle.refusals.specs.Refusal.{refused as refusal_at}
 use Rattle.refusals.specs.declared.Refusal.TheVariants.{TooLong, BadTree}
 use Rattle.rows.specs.Layout.{row_count, only_whole}
 use Rattle.rows.specs.PostOrder.{Subtree, Next, bad, on}
@@ -18,7 +20,6 @@ use Rattle.predicate.specs.Row.{shape_at, arity_of}
 use Rattle.predicate.specs.Tree.{Tree, tree_at, first_at, Falls, Sound}
 use Rattle.predicate.specs.Read.{Reading, one, refused, step_at, ended, and_then, read_from, read_rows, checked_of}
 use Rattle.predicate.specs.Check.{SoundBefore, good_at}
-use Rattle.predicate.specs.declared.Checked.TheVariants.{Root, Refused}
 use Rattle.predicate.proofs.Trees.{root_at}
 use Rattle.predicate.proofs.Stacks.{Tiles, step_is}
 
@@ -62,13 +63,13 @@ module _ {text l : List ℕ} {r : ℕ} (p : Reads text l r) where
           rest = λ left d. sym (read_on left (on z.0) z.1) ∙ p.rest (suc left) (omega arith);
         }
 
-    pub stops : good_at text l r ≡ false → Refused BadTree r ≡ checked_of (read_from text l (row_count l) 0 [])
+    pub stops : good_at text l r ≡ false → Err (refusal_at BadTree r) ≡ checked_of (read_from text l (row_count l) 0 [])
     unfolding and_then checked_of
     stops e =
         let left = row_count l - suc r in
         ap checked_of (sym (read_on left bad (step_is text l r p.stack (below_of h) e p.tiles)) ∙ p.rest (suc left) (omega arith))
 
-pub no_rows : (text l : List ℕ) → row_count l ≡ 0 → Refused BadTree 0 ≡ checked_of (read_from text l (row_count l) 0 [])
+pub no_rows : (text l : List ℕ) → row_count l ≡ 0 → Err (refusal_at BadTree 0) ≡ checked_of (read_from text l (row_count l) 0 [])
 unfolding checked_of read_from ended
 no_rows text l e = ap (λ (n : ℕ). checked_of (read_from text l n 0 [])) (sym e)
 
@@ -77,16 +78,16 @@ module _ {text l : List ℕ} {r : ℕ} (last : ℕ) (p : Reads text l r) (h : ro
   unfolding read_from
   is_all = p.rest 0 (omega (arith, p.within))
 
-  pub one_root : first_at l last ≡ 0 → Root last ≡ checked_of (read_from text l (row_count l) 0 [])
+  pub one_root : first_at l last ≡ 0 → Ok last ≡ checked_of (read_from text l (row_count l) 0 [])
   unfolding checked_of ended
-  one_root z = ap Root (sym (root_at l last)) ∙ ap checked_of (go p.stack p.tiles) ∙ ap checked_of is_all
+  one_root z = ap Ok (sym (root_at l last)) ∙ ap checked_of (go p.stack p.tiles) ∙ ap checked_of is_all
     where
       go : (s : List (Subtree Tree)) → Tiles l r s → one (tree_at l last) ≡ ended r s
       go [] t = absurd (omega arith)
       go (w ∷ []) t = let q : last ≡ t.0 = omega (arith, t.1) in ap one (ap (tree_at l) q ∙ sym t.2)
       go (w ∷ v ∷ s) t = let q : last ≡ t.0 = omega (arith, t.1) in absurd (omega (arith, t.3, ap (first_at l) q, t.4.1))
 
-  pub several_roots : (first_at l last ≡ 0 → ⊥) → Refused BadTree last ≡ checked_of (read_from text l (row_count l) 0 [])
+  pub several_roots : (first_at l last ≡ 0 → ⊥) → Err (refusal_at BadTree last) ≡ checked_of (read_from text l (row_count l) 0 [])
   unfolding checked_of ended
   several_roots n = ap checked_of (go p.stack p.tiles) ∙ ap checked_of is_all
     where
@@ -94,6 +95,9 @@ module _ {text l : List ℕ} {r : ℕ} (last : ℕ) (p : Reads text l r) (h : ro
       go [] t = absurd (omega arith)
       go (w ∷ []) t = let q : last ≡ t.0 = omega (arith, t.1) in absurd (n (ap (first_at l) q ∙ sym t.3 ∙ t.4))
       go (w ∷ v ∷ s) t = let q : last ≡ r - 1 = omega arith in ap (refused BadTree) q
+
+-- the laws that `check_rows` goes by
+pub ruleset row_steps = (begins, below_of, sound_last, goes, no_rows, one_root, several_roots)
 
 -- ---- the tests before the rows are read
 
@@ -115,18 +119,6 @@ module _ (text l : List ℕ) where
   unfolding read_rows
   by_tests b c e d = ap₂ read_by e d
 
-  pub long_text : text_max < length text → read_rows text l ≡ refused TooLong 0
-  long_text h = by_tests true (only_whole l) (ap (λ (b : Bool). b || ltb rows_max (row_count l)) (lt-ltb text_max (length text) h)) refl
-
-  pub long_rows : length text ≤ text_max → rows_max < row_count l → read_rows text l ≡ refused TooLong 0
-  long_rows h k = by_tests true (only_whole l) (ap₂ ◌||◌ (le-ltb text_max (length text) h) (lt-ltb rows_max (row_count l) k)) refl
-
-  module _ (h : length text ≤ text_max) (k : row_count l ≤ rows_max) where
-    short : (ltb text_max (length text) || ltb rows_max (row_count l)) ≡ false
-    short = ap₂ ◌||◌ (le-ltb text_max (length text) h) (le-ltb rows_max (row_count l) k)
-
-    pub ragged : only_whole l ≡ false → read_rows text l ≡ refused BadTree (row_count l)
-    ragged e = by_tests false false short e
-
-    pub in_turn : only_whole l ≡ true → read_rows text l ≡ read_from text l (row_count l) 0 []
-    in_turn e = by_tests false true short e
+  -- nothing is too long, and there are only whole rows
+  pub in_turn : length text ≤ text_max → row_count l ≤ rows_max → only_whole l ≡ true → read_rows text l ≡ read_from text l (row_count l) 0 []
+  in_turn h k e = by_tests false true (ap₂ ◌||◌ (le-ltb text_max (length text) h) (le-ltb rows_max (row_count l) k)) e

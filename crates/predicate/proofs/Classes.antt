@@ -1,14 +1,10 @@
--- Tests of a row's numbers. A kind that is none of those in a table of classes is unknown there (`unknown`); two bounds that follow from each
--- other are one test (`same_leb`).
+-- Kinds and classes. A kind that is none of those in a table of classes is unknown there (`unknown`).
 -- Assumes nothing.
-use mathlib.Core.Path.{◌≡◌, refl, sym, ap, ap₂, ◌∙◌}
+use mathlib.Core.Path.{◌≡◌, refl, ap, ap₂, ◌∙◌}
 use mathlib.Core.Bool.{Bool, true, false, ◌||◌}
 use mathlib.Core.List.{List, [], ◌∷◌}
-use Prim.Native.Nat.{ℕ, ◌≤◌}
-use native.Mathlib.Decide.{dec_le}
-use native.Mathlib.Omega.{arith}
-use lib.Dec.{leb}
-use borrow.Author.Tests.{ne_eqb, le-leb, lt-leb}
+use Prim.Native.Nat.{ℕ}
+use borrow.Author.Tests.{ne_eqb}
 use Rattle.predicate.specs.Row.{is_one_of, class_in}
 use Rattle.predicate.specs.declared.Class.{Class}
 use Rattle.predicate.specs.declared.Class.TheVariants.{Unknown}
@@ -32,11 +28,3 @@ pub unknown : (k : ℕ) (cs : List (List ℕ × Class)) → Apart k cs → class
 unfolding class_in
 unknown k [] a = refl
 unknown k (c ∷ cs) a = ap (λ (b : Bool). elim b [ true ↦ c.1 | false ↦ class_in k cs ]) (not_among k c.0 a.0) ∙ unknown k cs a.1
-
-pub same_leb : (a b c d : ℕ) → (a ≤ b → c ≤ d) → (c ≤ d → a ≤ b) → leb a b ≡ leb c d
-same_leb a b c d f g = go (dec_le a b) (dec_le c d)
-  where
-    go : Dec (a ≤ b) → Dec (c ≤ d) → leb a b ≡ leb c d
-    go (yes h) k = le-leb a b h ∙ sym (le-leb c d (f h))
-    go (no n) (yes k) = absurd (n (g k))
-    go (no n) (no m) = lt-leb a b (omega arith) ∙ sym (lt-leb c d (omega arith))

@@ -4,7 +4,6 @@ pub mod Classes
 pub mod Trees
 pub mod Shapes
 pub mod Stacks
-pub mod CheckTests
 pub mod CheckLoop
 pub mod Accepted
 pub mod RowsOfTree

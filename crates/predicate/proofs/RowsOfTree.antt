@@ -4,11 +4,13 @@
 -- Assumes nothing.
 use Prim.Native.Nat.{ℕ, zero, suc, ◌+◌, ◌-◌, ◌<◌, ◌≤◌}
 use mathlib.Core.Path.{◌≡◌, refl, sym, ap, ap₂, subst, ◌∙◌}
-use mathlib.Core.Bool.{Bool, true, false, ◌&&◌, ◌||◌}
+use mathlib.Core.Bool.{Bool, true, false}
 use mathlib.Core.List.{List, [], ◌∷◌, ◌++◌, map}
 use native.Mathlib.Omega.{arith}
 use lib.Dec.{eqb}
 use borrow.Author.Tests.{eqb-true}
+use Rattle.std.proofs.Math.Bool.{or-false}
+use Rattle.std.proofs.lemmas.Bool.{and_parts}
 use Rattle.rows.specs.Layout.{row_count, numbers, row_at}
 use Rattle.rows.specs.Label.{row_over_one, row_over_two, label_over_one, label_over_two}
 use Rattle.rows.specs.declared.Row.{Row}
@@ -59,10 +61,6 @@ module _ (l : List ℕ) (r : ℕ) (w : Row) where
 
 -- ---- the part of the table that a tree spells
 
-and_true : (b c : Bool) → (b && c) ≡ true → (b ≡ true) × (c ≡ true)
-and_true true c e = (refl, e)
-and_true false c e = (e, let z : ◌≡◌ {A = Bool} c true = cc in z)
-
 module _ (text l : List ℕ) where
   -- the rows up to r are good
   abbrev Goods : ℕ → Type 0
@@ -75,7 +73,7 @@ module _ (text l : List ℕ) where
   operands_part r arity.Nil s f e ih = sym (part_none l r)
   operands_part r (arity.One x) s f e ih = ih x f ∙ ap (part_of l (first_at l x)) (eqb-true (x + 1) r e)
   operands_part r (arity.Two x y) s f e ih =
-      let z = and_true (eqb (y + 1) r) (eqb (x + 1) (first_at l y)) e in
+      let z = and_parts (eqb (y + 1) r) (eqb (x + 1) (first_at l y)) e in
       let h : y + 1 ≡ r = eqb-true (y + 1) r z.0 in
       let g : x + 1 ≡ first_at l y = eqb-true (x + 1) (first_at l y) z.1 in
       let a : first_at l x ≤ x = first_le (sound_below x s (omega arith)) in
@@ -89,7 +87,7 @@ module _ (text l : List ℕ) where
   spelled_under (suc n) r h s g =
       ap rows_of (tree_step s)
       ∙ node
-      (and_true (allowed_of text (class_of (row_at l r).kind) (row_at l r).x (row_at l r).y) (operands_precede l r (arity_of (shape_at l r)))
+      (and_parts (allowed_of text (class_of (row_at l r).kind) (row_at l r).x (row_at l r).y) (operands_precede l r (arity_of (shape_at l r)))
       (g r (omega arith)))
       (λ q k. spelled_under n q (omega arith) (sound_below q s (omega arith)) (λ p i. g p (omega arith)))
     where
@@ -165,11 +163,7 @@ kind_of k =
     (λ e. tt, (λ e. tt, (λ e. tt, (λ e. tt, (λ e. tt, (only kind.AND, (only kind.OR, (only kind.NOT, (λ e. tt, (λ e. tt, (λ e. tt, tt)))))))))))
   where
     only : (j : ℕ) → is_one_of k (j ∷ []) ≡ true → k ≡ j
-    only j e = eqb-true k j (alone (eqb k j) e)
-      where
-        alone : (b : Bool) → (b || false) ≡ true → b ≡ true
-        alone true d = refl
-        alone false d = d
+    only j e = eqb-true k j (sym (or-false (eqb k j)) ∙ e)
 
 module _ (text l : List ℕ) where
   -- the connectives of the operands' trees
@@ -205,7 +199,7 @@ module _ (text l : List ℕ) where
   connectives_under (suc n) r h s g =
       let w = row_at l r in
       let a = arity_of (shape_at l r) in
-      let good = and_true (allowed_of text (class_of w.kind) w.x w.y) (operands_precede l r a) (g r (omega arith)) in
+      let good = and_parts (allowed_of text (class_of w.kind) w.x w.y) (operands_precede l r a) (g r (omega arith)) in
       subst Connectives (sym (tree_step s))
       (node_connectives r w (class_of w.kind) (kind_of w.kind) good.0
       (operand_connectives r a (s.falls r (omega arith))

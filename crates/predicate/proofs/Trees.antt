@@ -4,6 +4,7 @@
 use Prim.Native.Nat.{ℕ, zero, suc, ◌<◌, ◌≤◌}
 use mathlib.Core.Path.{◌≡◌, refl, sym, ap, ap₂, ◌∙◌, subst}
 use mathlib.Core.List.{List, [], ◌∷◌, map}
+use mathlib.Core.Logic.{◌⊎◌, inl, inr}
 use native.Mathlib.Omega.{arith}
 use Rattle.rows.specs.Layout.{row_at}
 use Rattle.rows.specs.declared.Row.{Row}
@@ -92,12 +93,15 @@ first_le {l} {r} s = first_under l (suc r) r (omega arith) s
 
 -- ---- the loop of `first_of`: the operands that a row was found to have
 
-module _ {l : List ℕ} {q : ℕ} {s : Shape} {a b : Arity} (h : Sound l q) (p : s ≡ shape_at l q) (o : a ≡ arity_of s) (t : a ≡ b) where
-  named : b ≡ arity_of (shape_at l q)
-  named = sym t ∙ o ∙ ap arity_of p
+module _ {l : List ℕ} {q : ℕ} {s : Shape} {a : Arity} (h : Sound l q) (p : s ≡ shape_at l q) (o : a ≡ arity_of s) where
+  pub first_named : {b : Arity} → a ≡ b → first_at l q ≡ first_by l q b
+  first_named t = first_at_lem h (sym t ∙ o ∙ ap arity_of p)
 
-  pub first_named : first_at l q ≡ first_by l q b
-  first_named = first_at_lem h named
+  falls_named : {b : Arity} → a ≡ b → Falls b q
+  falls_named t = subst (λ (i : Arity). Falls i q) (sym (ap arity_of p) ∙ sym o ∙ t) (h.falls q (omega arith))
 
-  pub falls_named : Falls b q
-  falls_named = subst (λ (i : Arity). Falls i q) (sym named) (h.falls q (omega arith))
+  -- its first operand's tree begins where its own does
+  pub first_turn : {x : ℕ} (r : ℕ) → (a ≡ arity.One x) ⊎ ((y : ℕ) × (a ≡ arity.Two x y)) → first_at l q ≡ first_at l r
+      → Sound l x × (first_at l x ≡ first_at l r)
+  first_turn {x} r (inl t) e = let lt = falls_named t in (sound_below x h (omega (arith, lt)), sym (first_named t) ∙ e)
+  first_turn {x} r (inr t) e = let lt = falls_named t.1 in (sound_below x h (omega (arith, lt.0)), sym (first_named t.1) ∙ e)

@@ -1,14 +1,14 @@
 -- Which rows are a predicate (FORMAT §6), and why others are refused (FORMAT §11).
-use Rattle.std.specs.Prelude.{ℕ, zero, suc, ◌+◌, ◌-◌, ◌<◌, ◌≡◌, true, false, ◌||◌, List, [], ◌∷◌, map, length, ltb}
+use Rattle.std.specs.Prelude.{Result, Ok, Err, ℕ, zero, suc, ◌+◌, ◌-◌, ◌<◌, ◌≡◌, true, false, ◌||◌, List, [], ◌∷◌, map, length, ltb}
 use Rattle.limits.specs.Limits.{text_max, rows_max}
+use Rattle.refusals.specs.Refusal.{refused as refusal_at}
 use Rattle.refusals.specs.declared.Refusal.{Refusal}
 use Rattle.refusals.specs.declared.Refusal.TheVariants.{TooLong, BadTree}
+use Rattle.refusals.specs.declared.Refused.{Refused}
 use Rattle.rows.specs.Layout.{row_count, only_whole, row_at}
 use Rattle.rows.specs.PostOrder.{Subtree, at, directly_before, Next, bad, on, push}
 use Rattle.predicate.specs.Row.{class_of, allowed_of, shape_at, arity_of, operands_of}
 use Rattle.predicate.specs.Tree.{Tree, root_of, node_of, tree_at, Sound}
-use Rattle.predicate.specs.declared.Checked.{Checked}
-use Rattle.predicate.specs.declared.Checked.TheVariants.{Root, Refused}
 
 -- what rows are: one tree, or a refusal and its place
 pub data Reading : Type 0 where
@@ -54,9 +54,9 @@ read_rows text l =
 -- No entry's promise names what follows: what the check's own promise is made of.
 
 -- what the check answers: the root's row, or the refusal
-unfoldable pub checked_of : Reading → Checked
-checked_of (one t) = Root (root_of t)
-checked_of (refused why place) = Refused why place
+unfoldable pub checked_of : Reading → Result ℕ Refused
+checked_of (one t) = Ok (root_of t)
+checked_of (refused why place) = Err (refusal_at why place)
 
 -- the rows are a predicate: the tree at row `root`, which is no later than rows may be, and where the operands of each row stand before it
 pub record Rooted (text rows : List ℕ) (root : ℕ) : Type 0 where
@@ -65,7 +65,7 @@ pub record Rooted (text rows : List ℕ) (root : ℕ) : Type 0 where
   pub low : root < rows_max
 
 -- the check's promise: v is what the rows are read as; a root is the root of the tree that they are; a refusal is the reading's own
-pub record Checks (text rows : List ℕ) (v : Checked) : Type 0 where
+pub record Checks (text rows : List ℕ) (v : Result ℕ Refused) : Type 0 where
   pub answer : v ≡ checked_of (read_rows text rows)
-  pub good : (root : ℕ) → v ≡ Root root → Rooted text rows root
-  pub bad : (why : Refusal) (place : ℕ) → v ≡ Refused why place → read_rows text rows ≡ refused why place
+  pub good : (root : ℕ) → v ≡ Ok root → Rooted text rows root
+  pub bad : (why : Refusal) (place : ℕ) → v ≡ Err (refusal_at why place) → read_rows text rows ≡ refused why place

@@ -1,4 +1,5 @@
 // The kinds of predicate rows. specs/Kind has the same numbers, and the contracts hold the two together.
+// They stay numbers: callers' rows have them, at the C face too, and `Class` is the enum that the code goes by.
 
 // Constants.
 pub const NULL: u64 = 1;

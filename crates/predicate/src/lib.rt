@@ -6,9 +6,8 @@
 #![tactic(auto)]
 
 use limits::{COLUMN_MAX, ROWS_MAX, TEXT_MAX};
-use refusals::Refusal;
+use refusals::{Refusal, Refused};
 use rows::Row;
-use widths::u64_to_usize;
 
 pub mod kind;
 
@@ -19,7 +18,7 @@ ghost use Rattle.predicate.specs.Tree.{first_at, Sound};
 ghost use Rattle.predicate.specs.Check.{SoundBefore, operands_precede, good_at};
 ghost use Rattle.predicate.specs.Read.{read_from, checked_of, Checks};
 
-// What a kind asks of its row.
+// What a kind asks of its row. `Unknown` stays a class: as an Option of a class, each match on one and each law of it would have a level more.
 #[derive(Clone, Copy)]
 pub enum Class {
     Unknown,
@@ -63,62 +62,47 @@ fn class_of(kind: u64) -> Class
     match kind {
         kind::NULL => Class::Null,
         kind::BOOLEAN => Class::Boolean,
-        kind::INTEGER => Class::Number,
-        kind::FLOAT => Class::Number,
+        kind::INTEGER | kind::FLOAT => Class::Number,
         kind::STRING => Class::Text,
         kind::COLUMN => Class::Column,
         kind::AND => Class::And,
         kind::OR => Class::Or,
         kind::NOT => Class::Not,
-        kind::EQUAL => Class::Binary,
-        kind::GREATER_THAN => Class::Binary,
-        kind::LESS_THAN => Class::Binary,
         kind::IS => Class::Is,
-        kind::ADD => Class::Binary,
-        kind::DIVIDE => Class::Binary,
-        kind::EXPONENTIATE => Class::Binary,
-        kind::FACTORIAL => Class::Unary,
-        kind::IDENTITY => Class::Unary,
-        kind::MULTIPLY => Class::Binary,
-        kind::NEGATE => Class::Unary,
-        kind::REMAINDER => Class::Binary,
-        kind::SQUARE_ROOT => Class::Unary,
-        kind::SUBTRACT => Class::Binary,
-        kind::LIKE => Class::Binary,
+        kind::FACTORIAL | kind::IDENTITY | kind::NEGATE | kind::SQUARE_ROOT => Class::Unary,
+        kind::EQUAL | kind::GREATER_THAN | kind::LESS_THAN | kind::LIKE => Class::Binary,
+        kind::ADD
+        | kind::SUBTRACT
+        | kind::MULTIPLY
+        | kind::DIVIDE
+        | kind::EXPONENTIATE
+        | kind::REMAINDER => Class::Binary,
         _ => Class::Unknown,
     }
 }
 
-// Answers whether a string lies in the text. No sum is formed that could wrap.
+// Tells if a string lies in the text. No sum is formed that could wrap.
 fn lies_within(text: &[u8], start: u64, size: u64) -> bool
     ensures { result ≡ leb (start + size) (length text.now) }
 {
     let all = text.len() as u64;
-    if start <= all {
-        size <= all - start
-    } else {
-        false
-    }
+    start <= all && size <= all - start
 }
 
-// Answers whether a row of this class may have these numbers.
+// Tells if a row of this class may have these numbers.
 #[tactic(auto, unfolding(crate::specs::Row::allowed_of))]
 fn allowed(text: &[u8], class: Class, x: u64, y: u64) -> bool
     ensures { result ≡ allowed_of text.now class x y }
 {
     match class {
         Class::Unknown => false,
-        Class::Null => if x == 0 { y == 0 } else { false },
-        Class::Boolean => if x <= 1 { y == 0 } else { false },
-        Class::Number => y == 0,
+        Class::Null => x == 0 && y == 0,
+        Class::Boolean => x <= 1 && y == 0,
         Class::Text => lies_within(text, x, y),
-        Class::Column => if x <= COLUMN_MAX { y == 0 } else { false },
-        Class::And => true,
-        Class::Or => true,
-        Class::Not => y == 0,
+        Class::Column => x <= COLUMN_MAX && y == 0,
         Class::Is => y <= 1,
-        Class::Unary => y == 0,
-        Class::Binary => true,
+        Class::Number | Class::Not | Class::Unary => y == 0,
+        Class::And | Class::Or | Class::Binary => true,
     }
 }
 
@@ -127,32 +111,31 @@ fn allowed(text: &[u8], class: Class, x: u64, y: u64) -> bool
 fn shape_of(class: Class, row: Row) -> Shape
     ensures { result ≡ shape_of class row }
 {
-    let x = u64_to_usize(row.x);
-    let y = u64_to_usize(row.y);
+    let x = row.x as usize;
+    let y = row.y as usize;
     match class {
-        Class::Unknown => Shape::Leaf,
-        Class::Null => Shape::Leaf,
-        Class::Boolean => Shape::Leaf,
-        Class::Number => Shape::Leaf,
-        Class::Text => Shape::Leaf,
-        Class::Column => Shape::Leaf,
+        Class::Unknown
+        | Class::Null
+        | Class::Boolean
+        | Class::Number
+        | Class::Text
+        | Class::Column => Shape::Leaf,
         Class::And => Shape::Both(x, y),
         Class::Or => Shape::Either(x, y),
         Class::Not => Shape::Not(x),
-        Class::Is => Shape::One(x),
-        Class::Unary => Shape::One(x),
+        Class::Is | Class::Unary => Shape::One(x),
         Class::Binary => Shape::Two(x, y),
     }
 }
 
 // Answers what row r is to a splitter.
+#[tactic(auto, unfolding(crate::specs::Row::shape_at))]
 pub fn shape_at(rows: &[u64], r: usize) -> Shape
     requires { r < row_count rows.now }
     ensures { result ≡ shape_at rows.now r }
 {
     let row = rows::row_at(rows, r);
-    let kind = row.kind;
-    shape_of(class_of(kind), row)
+    shape_of(class_of(row.kind), row)
 }
 
 // Answers the rows of a row's operands.
@@ -162,114 +145,83 @@ fn operands(s: Shape) -> Arity
 {
     match s {
         Shape::Leaf => Arity::Nil,
-        Shape::One(x) => Arity::One(x),
-        Shape::Two(x, y) => Arity::Two(x, y),
-        Shape::Both(x, y) => Arity::Two(x, y),
-        Shape::Either(x, y) => Arity::Two(x, y),
-        Shape::Not(x) => Arity::One(x),
+        Shape::One(x) | Shape::Not(x) => Arity::One(x),
+        Shape::Two(x, y) | Shape::Both(x, y) | Shape::Either(x, y) => Arity::Two(x, y),
     }
 }
 
-// Finds the first row of the subtree at row r.
+// Finds the first row of the subtree at row r. It follows first operands, so no counted loop would do.
+// `Sound` stays a `requires`: as a ghost field of a struct of rows and root it proves, but each clause then says `t.entry.rows.now` and `t.entry.root`.
+#[tactic(auto, using(crate::proofs::Trees::first_named, crate::proofs::Trees::first_turn))]
 fn first_of(rows: &[u64], r: usize) -> usize
     requires { Sound rows.now r }
     ensures { result ≡ first_at rows.now r }
 {
     let mut q = r;
-    loop {
-        let a = operands(shape_at(rows, q));
-        match a {
-            Arity::Nil => {
-                return q;
-            }
-            Arity::One(x) => {
-                q = x;
-            }
-            Arity::Two(x, _) => {
-                q = x;
-            }
-        }
+    while let Arity::One(x) | Arity::Two(x, _) = operands(shape_at(rows, q)) {
+        q = x;
     }
+    q
 }
 
-// Answers whether the whole subtrees of its operands stand directly before row r. An operand is held against r before one is added to it, so that no sum wraps.
+// Tells if the whole subtrees of its operands stand directly before row r.
+#[tactic(auto, unfolding(crate::specs::Check::operands_precede))]
 fn operands_precede(rows: &[u64], r: usize, a: Arity) -> bool
     requires { SoundBefore rows.now r }
     ensures { result ≡ operands_precede rows.now r a }
 {
     match a {
         Arity::Nil => true,
-        Arity::One(x) => if x < r { x + 1 == r } else { false },
-        Arity::Two(x, y) => {
-            if y < r {
-                if y + 1 == r {
-                    let first = first_of(rows, y);
-                    return if x < first { x + 1 == first } else { false };
-                }
-            }
-            false
-        }
+        Arity::One(x) => x.checked_add(1) == Some(r),
+        Arity::Two(x, y) => y.checked_add(1) == Some(r)
+            && x.checked_add(1) == Some(first_of(rows, y)),
     }
 }
 
-// Answers whether row r may stand after the rows before it.
+// Tells if row r may stand after the rows before it.
+#[tactic(auto, unfolding(crate::specs::Check::good_at, crate::specs::Row::shape_at))]
 fn good_at(text: &[u8], rows: &[u64], r: usize) -> bool
     requires { SoundBefore rows.now r }
     ensures { result ≡ good_at text.now rows.now r }
 {
     let row = rows::row_at(rows, r);
-    let kind = row.kind;
-    let class = class_of(kind);
-    if allowed(text, class, row.x, row.y) {
-        return operands_precede(rows, r, operands(shape_of(class, row)));
-    }
-    false
-}
-
-// What the check finds: the root's row, which is the last, or a refusal and its place.
-#[derive(Clone, Copy)]
-pub enum Checked {
-    Root(usize),
-    Refused(Refusal, usize),
+    let class = class_of(row.kind);
+    allowed(text, class, row.x, row.y) && operands_precede(rows, r, operands(shape_of(class, row)))
 }
 
 // Checks each row in turn, up to the first that is not good; then that there is one root.
-fn check_rows(text: &[u8], rows: &[u64]) -> Checked
+#[tactic(auto, using(crate::proofs::CheckLoop::row_steps))]
+fn check_rows(text: &[u8], rows: &[u64]) -> Result<usize, Refused>
     ensures { result ≡ checked_of (read_from text.now rows.now (row_count rows.now) 0 []) }
 {
     let whole = rows::count(rows);
-    let mut r = 0;
-    while r < whole {
+    for r in 0..whole {
         if !good_at(text, rows, r) {
-            return Checked::Refused(Refusal::BadTree, r);
+            return Err(Refusal::BadTree.at(r));
         }
-        r += 1;
     }
-    if whole == 0 {
-        return Checked::Refused(Refusal::BadTree, 0);
-    }
-    let last = whole - 1;
+    let Some(last) = whole.checked_sub(1) else {
+        return Err(Refusal::BadTree.at(0));
+    };
     let first = first_of(rows, last);
     if first == 0 {
-        Checked::Root(last)
+        Ok(last)
     } else {
-        Checked::Refused(Refusal::BadTree, last)
+        Err(Refusal::BadTree.at(last))
     }
 }
 
-// Checks that the rows are a predicate over the text. Then they are the tree at the row that is answered.
-pub fn check(text: &[u8], rows: &[u64]) -> Checked
+// Checks that the rows are a predicate over the text. Then they are the tree at the row that is answered: the root's, which is the last.
+#[tactic(auto, using(crate::proofs::Accepted::checks), unfolding(crate::specs::Read::checked_of, crate::specs::Read::read_rows))]
+pub fn check(text: &[u8], rows: &[u64]) -> Result<usize, Refused>
     ensures { Checks text.now rows.now result }
 {
     let whole = rows::count(rows);
-    if TEXT_MAX < text.len() {
-        return Checked::Refused(Refusal::TooLong, 0);
+    if TEXT_MAX < text.len() || ROWS_MAX < whole {
+        return Err(Refusal::TooLong.at(0));
     }
-    if ROWS_MAX < whole {
-        return Checked::Refused(Refusal::TooLong, 0);
+    if !rows::only_whole(rows) {
+        return Err(Refusal::BadTree.at(whole));
     }
-    if rows::only_whole(rows) {
-        return check_rows(text, rows);
-    }
-    Checked::Refused(Refusal::BadTree, whole)
+    check_rows(text, rows)
 }
