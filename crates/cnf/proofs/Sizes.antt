@@ -2,81 +2,73 @@
 -- none too many is the list's own (`size_is`).
 -- Assumes nothing.
 use Prim.Native.Nat.{ℕ, ◌+◌, ◌*◌, ◌<◌, ◌≤◌}
-use mathlib.Core.Path.{◌≡◌, refl, sym, ap, ap₂, ◌∙◌, subst}
-use mathlib.Core.Bool.{Bool, true, false, not}
+use mathlib.Core.Path.{◌≡◌, refl, sym, ap₂, ◌∙◌, subst}
+use mathlib.Core.Bool.{Bool, true, false, not, ◌&&◌}
 use mathlib.Core.List.{List, [], ◌∷◌, ◌++◌, append_assoc}
 use native.Mathlib.Omega.{arith}
 use native.Mathlib.Nat.{le-mul_of_pos_right, le_trans}
 use lib.ListN.{length, length-append, length-map}
 use lib.Dec.{leb}
-use borrow.Author.Tests.{lt-leb, leb-true, leb-false}
+use borrow.Author.Tests.{leb-true, leb-false}
+use Rattle.std.specs.Prelude.{Option, Some, None}
 use Rattle.limits.specs.Limits.{clauses_max, literals_max}
 use Rattle.predicate.specs.Tree.{Tree, leaf, unary, binary, both, either, negation}
 use Rattle.cnf.specs.Clause.{Literal, cross, join, clauses, total}
-use Rattle.cnf.specs.Size.{pick, within_limits, size_of, join_sizes, Limited}
+use Rattle.cnf.specs.Size.{sized, within_limits, size_of, join_sizes, Limited}
 use Rattle.cnf.specs.declared.Size.{Size}
-use Rattle.cnf.specs.declared.Size.TheVariants.{TooMany, Is}
 use Rattle.cnf.proofs.Crossing.{before, cross_cross}
 
 -- ---- limits
 
-many_clauses : (c l : ℕ) → clauses_max < c → within_limits c l ≡ TooMany
-unfolding within_limits
-many_clauses c l h = ap (λ (b : Bool). pick b (pick (leb l literals_max) (Is c l) TooMany) TooMany) (lt-leb c clauses_max h)
-
-many_literals : (c l : ℕ) → literals_max < l → within_limits c l ≡ TooMany
-unfolding within_limits
-many_literals c l h = ap (λ (b : Bool). pick (leb c clauses_max) (pick b (Is c l) TooMany) TooMany) (lt-leb l literals_max h) ∙ go (leb c clauses_max)
-  where
-    go : (p : Bool) → pick p TooMany TooMany ≡ TooMany
-    go true = refl
-    go false = refl
-
--- what a size within the limits says
-abbrev LimitsSay : ℕ → ℕ → Size → Type 0
-LimitsSay c l TooMany = Unit {0}
-LimitsSay c l (Is d m) = (d ≡ c) × (m ≡ l) × (c ≤ clauses_max) × (l ≤ literals_max)
+-- what a size says of so many clauses and literals: they are within the limits, or not
+abbrev LimitsSay : ℕ → ℕ → Option Size → Type 0
+LimitsSay c l None = c ≤ clauses_max → l ≤ literals_max → ⊥
+LimitsSay c l (Some s) = (s.clauses ≡ c) × (s.literals ≡ l) × (c ≤ clauses_max) × (l ≤ literals_max)
 
 limits_say : (c l : ℕ) → LimitsSay c l (within_limits c l)
 unfolding within_limits
 limits_say c l = go (leb c clauses_max) (leb l literals_max) refl refl
   where
-    go : (p q : Bool) → leb c clauses_max ≡ p → leb l literals_max ≡ q → LimitsSay c l (pick p (pick q (Is c l) TooMany) TooMany)
+    go : (p q : Bool) → leb c clauses_max ≡ p → leb l literals_max ≡ q → LimitsSay c l (elim (p && q) [ true ↦ Some (sized c l) | false ↦ None ])
     go true true e f = (refl, refl, leb-true c clauses_max e, leb-true l literals_max f)
-    go true false e f = tt
-    go false q e f = tt
+    go true false e f = λ h k. omega (arith, leb-false l literals_max f)
+    go false q e f = λ h k. omega (arith, leb-false c clauses_max e)
 
-pub size_is : (cs : List (List Literal)) {c l : ℕ} → size_of cs ≡ Is c l
-    → (c ≡ length cs) × (l ≡ total cs) × (length cs ≤ clauses_max) × (total cs ≤ literals_max)
+pub size_is : (cs : List (List Literal)) {s : Size} → size_of cs ≡ Some s
+    → (s.clauses ≡ length cs) × (s.literals ≡ total cs) × (length cs ≤ clauses_max) × (total cs ≤ literals_max)
 unfolding size_of
 size_is cs e = subst (LimitsSay (length cs) (total cs)) e (limits_say (length cs) (total cs))
 
-pub size_many : (cs : List (List Literal)) → size_of cs ≡ TooMany → length cs ≤ clauses_max → total cs ≤ literals_max → ⊥
-unfolding size_of within_limits
-size_many cs e h k = go (leb (length cs) clauses_max) (leb (total cs) literals_max) refl refl e
-  where
-    go : (p q : Bool) → leb (length cs) clauses_max ≡ p → leb (total cs) literals_max ≡ q
-        → pick p (pick q (Is (length cs) (total cs)) TooMany) TooMany ≡ TooMany → ⊥
-    go true true f g d = let z : ◌≡◌ {A = ℕ} 0 1 = cc in omega arith
-    go true false f g d = omega (arith, leb-false (total cs) literals_max g)
-    go false q f g d = omega (arith, leb-false (length cs) clauses_max f)
-
-limited_says : (c l : ℕ) (s : Size) → LimitsSay c l s → Limited s
-limited_says c l TooMany h = tt
-limited_says c l (Is d m) h = (omega (arith, h.0, h.2), omega (arith, h.1, h.3))
-
-pub limited_size : (cs : List (List Literal)) {s : Size} → s ≡ size_of cs → Limited s
+pub size_many : (cs : List (List Literal)) → size_of cs ≡ None → length cs ≤ clauses_max → total cs ≤ literals_max → ⊥
 unfolding size_of
-limited_size cs e = subst Limited (sym e) (limited_says (length cs) (total cs) (size_of cs) (limits_say (length cs) (total cs)))
+size_many cs e = subst (LimitsSay (length cs) (total cs)) e (limits_say (length cs) (total cs))
 
-pub limited_joined : (o : Bool) (a b : Size) → Limited (join_sizes o a b)
+too_many : (c l : ℕ) → (c ≤ clauses_max → l ≤ literals_max → ⊥) → within_limits c l ≡ None
+too_many c l n = go (within_limits c l) (limits_say c l)
+  where
+    go : (s : Option Size) → LimitsSay c l s → s ≡ None
+    go None p = refl
+    go (Some s) p = absurd (n p.2 p.3)
+
+limited_within : (c l : ℕ) → Limited (within_limits c l)
+limited_within c l = go (within_limits c l) (limits_say c l)
+  where
+    go : (s : Option Size) → LimitsSay c l s → Limited s
+    go None p = tt
+    go (Some s) p = (omega (arith, p.0, p.2), omega (arith, p.1, p.3))
+
+pub limited_size : (cs : List (List Literal)) {s : Option Size} → s ≡ size_of cs → Limited s
+unfolding size_of
+limited_size cs e = subst Limited (sym e) (limited_within (length cs) (total cs))
+
+pub limited_joined : (o : Bool) (a b : Option Size) → Limited (join_sizes o a b)
 unfolding join_sizes
-limited_joined o TooMany b = tt
-limited_joined o (Is c l) TooMany = tt
-limited_joined false (Is c l) (Is d m) = limited_says (c + d) (l + m) (within_limits (c + d) (l + m)) (limits_say (c + d) (l + m))
-limited_joined true (Is c l) (Is d m) = limited_says (c * d) (l * d + m * c) (within_limits (c * d) (l * d + m * c)) (limits_say (c * d) (l * d + m * c))
+limited_joined o None b = tt
+limited_joined o (Some s) None = tt
+limited_joined false (Some s) (Some t) = limited_within (s.clauses + t.clauses) (s.literals + t.literals)
+limited_joined true (Some s) (Some t) = limited_within (s.clauses * t.clauses) (s.literals * t.clauses + t.literals * s.clauses)
 
-pub limited_is : {s : Size} {c l : ℕ} → s ≡ Is c l → Limited s → (c ≤ clauses_max) × (l ≤ literals_max)
+pub limited_is : {s : Option Size} {z : Size} → s ≡ Some z → Limited s → (z.clauses ≤ clauses_max) × (z.literals ≤ literals_max)
 limited_is e h = subst Limited e h
 
 -- ---- two sizes together
@@ -108,24 +100,23 @@ module _ (c l d m : ℕ) (hc : 0 < c) (hd : 0 < d) where
   right_literals true = omega (arith, le-mul_of_pos_right m hc)
 
   join_within_limits : (o : Bool) → join_sizes o (within_limits c l) (within_limits d m) ≡ within_limits (clauses_of o c d) (literals_of o c l d m)
-  unfolding join_sizes within_limits
-  join_within_limits o = go (leb c clauses_max) (leb l literals_max) (leb d clauses_max) (leb m literals_max) refl refl refl refl
+  unfolding join_sizes
+  join_within_limits o = go (within_limits c l) (limits_say c l) (within_limits d m) (limits_say d m)
     where
-      last : (q : Bool) → join_sizes q (Is c l) (Is d m) ≡ within_limits (clauses_of q c d) (literals_of q c l d m)
-      last false = refl
-      last true = refl
+      both : (s t : Size) → LimitsSay c l (Some s) → LimitsSay d m (Some t) → (q : Bool)
+          → join_sizes q (Some s) (Some t) ≡ within_limits (clauses_of q c d) (literals_of q c l d m)
+      both s t p q false = ap₂ within_limits (ap₂ ◌+◌ p.0 q.0) (ap₂ ◌+◌ p.1 q.1)
+      both s t p q true = ap₂ within_limits (ap₂ ◌*◌ p.0 q.0) (ap₂ ◌+◌ (ap₂ ◌*◌ p.1 q.0) (ap₂ ◌*◌ q.1 p.0))
 
-      go : (p q r s : Bool) → leb c clauses_max ≡ p → leb l literals_max ≡ q → leb d clauses_max ≡ r → leb m literals_max ≡ s
-          → join_sizes o (pick p (pick q (Is c l) TooMany) TooMany) (pick r (pick s (Is d m) TooMany) TooMany)
-          ≡ within_limits (clauses_of o c d) (literals_of o c l d m)
-      go false q r s ep eq er es = sym (many_clauses (clauses_of o c d) (literals_of o c l d m) (omega (arith, left_clauses o, leb-false c clauses_max ep)))
-      go true false r s ep eq er es =
-          sym (many_literals (clauses_of o c d) (literals_of o c l d m) (omega (arith, left_literals o, leb-false l literals_max eq)))
-      go true true false s ep eq er es =
-          sym (many_clauses (clauses_of o c d) (literals_of o c l d m) (omega (arith, right_clauses o, leb-false d clauses_max er)))
-      go true true true false ep eq er es =
-          sym (many_literals (clauses_of o c d) (literals_of o c l d m) (omega (arith, right_literals o, leb-false m literals_max es)))
-      go true true true true ep eq er es = last o
+      go : (s : Option Size) → LimitsSay c l s → (t : Option Size) → LimitsSay d m t
+          → join_sizes o s t ≡ within_limits (clauses_of o c d) (literals_of o c l d m)
+      go None p t q =
+          sym (too_many (clauses_of o c d) (literals_of o c l d m)
+          (λ h k. p (le_trans (left_clauses o) h) (le_trans (left_literals o) k)))
+      go (Some s) p None q =
+          sym (too_many (clauses_of o c d) (literals_of o c l d m)
+          (λ h k. q (le_trans (right_clauses o) h) (le_trans (right_literals o) k)))
+      go (Some s) p (Some t) q = both s t p q o
 
 -- ---- two lists together
 
