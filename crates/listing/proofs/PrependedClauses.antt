@@ -11,7 +11,7 @@ use lib.ListN.{length, get_or, length-append, length-map, get_or-append}
 use lib.Seq.{get_or-append-add}
 use Rattle.cnf.specs.Clause.{Literal, literal_number, cross, total}
 use Rattle.listing.specs.Chain.{chain_of, CellsMade, ChainsSpell}
-use Rattle.listing.specs.Heads.{Prepended, CopySafe, Copied}
+use Rattle.listing.specs.Heads.{Prepended, Copied}
 use Rattle.listing.specs.Listing.{RoomToPrepend, ClausesPrepended, Frontier}
 use Rattle.cnf.proofs.Crossing.{get_before, cross_append, cross_cross, cross_one}
 use Rattle.cnf.proofs.Sizes.{length_cross, total_append, total_cross}
@@ -73,9 +73,6 @@ module _ {cs : List (List Literal)} (xs ys : List (List Literal)) (c : cs ≡ xs
   pub append_saved : spare + each ≤ first
   append_saved = omega (arith, f.space, all_clauses, le-mul_of_pos_right each px, le-mul_of_pos_right each py)
 
-  pub append_save_asks : CopySafe first spare each × (first + each ≤ length d) × (spare + each ≤ length d)
-  append_save_asks = (record { apart = λ k j a b e. omega (arith, append_saved) }, f.heads.within, omega (arith, append_saved, f.heads.within))
-
   module _ {d' : List ℕ} (s : Copied d d' first spare each) where
     pub append_right : RoomToPrepend u d' (spare + each) first each n ys
     append_right = record {
@@ -96,13 +93,6 @@ module _ {cs : List (List Literal)} (xs ys : List (List Literal)) (c : cs ≡ xs
       saved : (i : ℕ) → i < each → get_or e (spare + i) 0 ≡ get_or d (first + i) 0
       saved i h = q.elsewhere.before (spare + i) (omega arith) ∙ s.copy i h
 
-      pub append_restore_asks : CopySafe spare (p.first - each) each × (spare + each ≤ length e) × (p.first - each + each ≤ length e)
-      append_restore_asks = (
-        record { apart = λ k j a b g. omega (arith, append_room) },
-        omega (arith, append_room, q.heads.within),
-        omega (arith, append_room, q.heads.within),
-      )
-
       module _ {e' : List ℕ} (b : Copied e e' spare (p.first - each) each) where
         -- the heads that were saved stand directly before those of the second list
         restored : (i : ℕ) → i < each → get_or e' (p.first - each + i) 0 ≡ get_or d (first + i) 0
@@ -112,7 +102,7 @@ module _ {cs : List (List Literal)} (xs ys : List (List Literal)) (c : cs ≡ xs
         append_left = record {
           cells = q.cells;
           heads = record {
-            within = omega (arith, b.long, append_restore_asks.2);
+            within = omega (arith, b.long, append_room, q.heads.within);
             below = λ i h. omega (arith, restored i h, f.heads.below i h, q.elsewhere.more);
           };
           room = omega (arith, f.room, all_literals, q.used, q.elsewhere.cells);

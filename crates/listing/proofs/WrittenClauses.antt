@@ -1,4 +1,4 @@
--- Chains written out: the loop of `write_chain` (`chain_left`, `chain_goes`, `chain_written`) and that of `write_clauses`, which begins where all
+-- Chains written out: the loop of `write_chain` (`chain_goes`, `chain_written`) and that of `write_clauses`, which begins where all
 -- clauses are prepended (`room_to_prepend`, `chains_spell`), writes one clause a turn (`turn_followable`, `turn_room`, `turn_goes`) and leaves what
 -- stands after the written numbers (`all_written`).
 -- Assumes nothing.
@@ -67,9 +67,6 @@ pub record ChainLeft (u a b : List ℕ) (head start h at : ℕ) : Type 0 where
   pub wrote : sets b at (chain_of u h) ≡ sets a start (chain_of u head)
   pub next : at + length (chain_of u h) ≡ start + length (chain_of u head)
   pub same : length b ≡ length a
-
-pub chain_left : {u : List ℕ} (a : List ℕ) {head : ℕ} (start : ℕ) → Followable u head → ChainLeft u a a head start head start
-chain_left a start s = record { followable = s; wrote = refl; next = refl; same = refl }
 
 module _ {u a b : List ℕ} {head start h at : ℕ} (p : ChainLeft u a b head start h at) where
   module _ (q : 0 < h) where
@@ -140,9 +137,6 @@ module _ (cs : List (List Literal)) {u a d : List ℕ} (last : ℕ) (e : last + 
     cells_within : 2 * p.free ≤ length v
     cells_within = omega (arith, q.used, q.elsewhere.cells, s.cells, length-set u 0 1)
 
-    pub long_cells : length v ≡ length u
-    long_cells = q.elsewhere.cells ∙ length-set u 0 1
-
     chains_spell : ChainsSpell v hs 0 cs
     chains_spell =
         let z : p.first ≡ 0 = omega (arith, q.end) in
@@ -207,9 +201,6 @@ none_written cs a hs = record { place = refl; literals = refl; ends = refl }
 module _ (cs : List (List Literal)) {a b hs e : List ℕ} {at k : ℕ} (p : FirstWritten cs a b hs e at k) where
   pub long_literals : length b ≡ length a
   long_literals = ap length p.literals ∙ length-sets a 0 (literal_numbers (take k cs))
-
-  pub long_ends : length e ≡ length hs
-  long_ends = ap length p.ends ∙ length-sets hs 0 (ends_from 0 (take k cs))
 
   module _ {u : List ℕ} {n : ℕ} (y : ChainsReady cs u a hs n) (less : k < n) {x : ℕ} (ex : x ≡ get_or e k 0) where
     h : k < length cs

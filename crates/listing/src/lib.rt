@@ -6,12 +6,12 @@ ghost use Rattle.std.specs.Prelude.{◌≡◌, false, ◌+◌, ◌*◌, ◌<◌,
 ghost use Rattle.limits.specs.Limits.{rows_max};
 ghost use Rattle.predicate.specs.Tree.{tree_at, Sound};
 ghost use Rattle.cnf.specs.Clause.{bit, clauses};
+ghost use Rattle.cnf.specs.Source.{clauses_at};
 ghost use Rattle.listing.specs.Chain.{chain_of, free_of, CellsMade, HeadsAt, Followable, Wrote};
-ghost use Rattle.listing.specs.Heads.{Prepended, CopySafe, Copied, Saves, Saved, Restores, Restored};
+ghost use Rattle.listing.specs.Heads.{Prepended, Copied};
 ghost use Rattle.listing.specs.Listing.{RoomToPrepend, frontier, ClausesPrepended, RoomToWrite, Written};
 
-use cnf::{Source, past_nots};
-use widths::{u16_to_usize, u32_to_usize, usize_to_u16, usize_to_u32};
+use cnf::{SignedRow, Source, past_nots};
 
 // Where heads stand: the place of the first, and how many there are.
 #[derive(Clone, Copy)]
@@ -20,140 +20,87 @@ pub struct Run {
     pub each: usize,
 }
 
-// Answers the number of a literal: twice its row, plus 1 if negated.
-pub fn literal_number(r: usize, negated: bool) -> u16
-    requires { r < rows_max }
-    ensures { result ≡ 2 * r + bit negated }
+// Answers the number of a literal, which is its atom's row, read plainly or negated: twice the row, plus 1 if negated. No `From`: that could not ask that the row
+// is below the most rows.
+pub fn literal_number(atom: SignedRow) -> u16
+    requires { atom.row < rows_max }
+    ensures { result ≡ 2 * atom.row + bit atom.negated }
 {
-    if negated {
-        usize_to_u16(2 * r + 1)
-    } else {
-        usize_to_u16(2 * r)
-    }
+    (2 * atom.row + usize::from(atom.negated)) as u16
 }
 
-// Puts a cell with the literal x before each of the chains whose heads stand from place `first` on.
-fn prepend(cells: &mut [u16], heads: &mut [u32], first: usize, each: usize, x: u16)
+// Puts a cell with the literal x before each of the chains whose heads these are.
+fn prepend(cells: &mut [u16], heads: &mut [u32], run: Run, x: u16)
     requires { CellsMade cells.old (free_of cells.old)
-        × HeadsAt heads.old (free_of cells.old) first each
-        × (2 * (free_of cells.old + each) ≤ length cells.old) }
-    ensures { Prepended x cells.old cells.new heads.old heads.new first each
+        × HeadsAt heads.old (free_of cells.old) run.first run.each
+        × (2 * (free_of cells.old + run.each) ≤ length cells.old) }
+    ensures { Prepended x cells.old cells.new heads.old heads.new run.first run.each
         (free_of cells.old) (free_of cells.new) }
 {
-    let mut m = u16_to_usize(cells[0]);
-    let mut k: usize = 0;
-    while k < each {
-        let i = first + k;
-        let h = u32_to_usize(heads[i]);
-        let c = 2 * m;
-        cells[c] = x;
-        let next = c + 1;
-        cells[next] = usize_to_u16(h);
-        heads[i] = usize_to_u32(m);
+    let mut m = usize::from(cells[0]);
+    for i in run.first..run.first + run.each {
+        let h = heads[i];
+        cells[2 * m] = x;
+        cells[2 * m + 1] = h as u16;
+        heads[i] = m as u32;
         m += 1;
-        k += 1;
     }
-    cells[0] = usize_to_u16(m);
+    cells[0] = m as u16;
 }
 
-// Copies `each` heads from place `from` on to place `to` on, the last ones first. By halves: a loop would become part of `prepend_clauses`, whose frames
-// are as many as the nesting is deep.
+// Copies `each` heads from place `from` on to place `to` on. Never inlined: the frames of `prepend_clauses` are as many as the nesting is deep, and
+// have no room for its loops.
+#[inline(never)]
 fn copy_heads(heads: &mut [u32], from: usize, to: usize, each: usize)
-    requires { CopySafe from to each × (from + each ≤ length heads.old) × (to + each ≤ length heads.old) }
+    requires { (from + each ≤ length heads.old) × (to + each ≤ length heads.old) }
     ensures { Copied heads.old heads.new from to each }
 {
-    if each == 0 {
-        return;
-    }
-    if each == 1 {
-        let h = heads[from];
-        heads[to] = h;
-        return;
-    }
-    let half = each / 2;
-    let rest = each - half;
-    copy_heads(heads, from + half, to + half, rest);
-    copy_heads(heads, from, to, half);
+    heads.copy_within(from..from + each, to);
 }
 
-// Saves the heads that stand from place `first` on to place `spare` on, before the clauses of the right one of two rows are prepended; none where the two
-// lists are joined crosswise. Answers the place from which on is free.
-fn save_heads(heads: &mut [u32], crosswise: bool, first: usize, spare: usize, each: usize) -> usize
-    requires { Saves crosswise heads.old first spare each }
-    ensures { Saved crosswise heads.old heads.new first spare each result }
-{
-    if crosswise {
-        return spare;
-    }
-    copy_heads(heads, first, spare, each);
-    spare + each
-}
-
-// Answers the heads that the left one's clauses are put before, where those of the right one's stand from place `right` on: these, if the lists are joined
-// crosswise; else the heads that were saved, restored directly before these.
-fn restore_heads(
-    heads: &mut [u32],
-    crosswise: bool,
-    first: usize,
-    spare: usize,
-    each: usize,
-    right: usize,
-) -> Run
-    requires { Restores crosswise heads.old first spare each right }
-    ensures { Restored crosswise heads.old heads.new first spare each right result }
-{
-    if crosswise {
-        return Run {
-            first: right,
-            each: first + each - right,
-        };
-    }
-    let before = right - each;
-    copy_heads(heads, spare, before, each);
-    Run {
-        first: before,
-        each,
-    }
-}
-
-// Puts each clause of row `root` before each of the `many` chains whose heads stand from place `at` on. The heads of all then end where those ended, and
-// the place of the first is answered. Places from `spare` on are free. The clauses of the right one of two operands are prepended by a call, those of
-// the left one in the next turn, so that only nesting on the right is deep.
+// Puts each clause of row `root` before each of the chains whose heads are `start`. The heads of all then end where those ended, and the place of the first
+// is answered. Places from `spare` on are free. The clauses of the right one of two operands are prepended by a call, those of the left one in the next
+// turn, so that only nesting on the right is deep. The heads that the left one's clauses are put before are kept until then: none where the two lists are
+// joined crosswise, since these are then the heads of the right one's.
 fn prepend_clauses(
     rows: &[u64],
     cells: &mut [u16],
     heads: &mut [u32],
     spare: usize,
-    at: usize,
-    many: usize,
-    root: usize,
-    negated: bool,
+    start: Run,
+    root: SignedRow,
 ) -> usize
-    requires { Sound rows.now root × (root < rows_max)
-        × RoomToPrepend cells.old heads.old spare at many (free_of cells.old) (clauses negated (tree_at rows.now root)) }
-    ensures { ClausesPrepended (clauses negated (tree_at rows.now root))
-        cells.old cells.new heads.old heads.new spare at many
+    requires { Sound rows.now root.row × (root.row < rows_max)
+        × RoomToPrepend cells.old heads.old spare start.first start.each (free_of cells.old) (clauses_at rows.now root) }
+    ensures { ClausesPrepended (clauses_at rows.now root)
+        cells.old cells.new heads.old heads.new spare start.first start.each
         (free_of cells.old) (frontier (free_of cells.new) result) }
 {
-    let mut first = at;
-    let mut each = many;
-    let mut r = root;
-    let mut r_negated = negated;
+    let mut run = start;
+    let mut at = root;
     loop {
-        let source = past_nots(rows, r, r_negated);
-        match source {
-            Source::Atom(q, q_negated) => {
-                prepend(cells, heads, first, each, literal_number(q, q_negated));
-                return first;
+        match past_nots(rows, at) {
+            Source::Atom(atom) => {
+                prepend(cells, heads, run, literal_number(atom));
+                return run.first;
             }
-            Source::Joined(x, y, both_negated, crosswise) => {
-                let free = save_heads(heads, crosswise, first, spare, each);
-                let right = prepend_clauses(rows, cells, heads, free, first, each, y, both_negated);
-                let run = restore_heads(heads, crosswise, first, spare, each, right);
-                first = run.first;
-                each = run.each;
-                r = x;
-                r_negated = both_negated;
+            Source::Joined {
+                left,
+                right,
+                crosswise,
+            } => {
+                let kept = if crosswise { 0 } else { run.each };
+                copy_heads(heads, run.first, spare, kept);
+                let right_first = prepend_clauses(rows, cells, heads, spare + kept, run, right);
+                let first = right_first - kept;
+                copy_heads(heads, spare, first, kept);
+                let each = if crosswise {
+                    run.first + run.each - first
+                } else {
+                    kept
+                };
+                run = Run { first, each };
+                at = left;
             }
         }
     }
@@ -167,11 +114,9 @@ fn write_chain(cells: &[u16], literals: &mut [u32], start: usize, head: usize) -
     let mut at = start;
     let mut h = head;
     while 0 < h {
-        let c = 2 * h;
-        literals[at] = usize_to_u32(u16_to_usize(cells[c]));
+        literals[at] = u32::from(cells[2 * h]);
         at += 1;
-        let next = c + 1;
-        h = u16_to_usize(cells[next]);
+        h = usize::from(cells[2 * h + 1]);
     }
     at
 }
@@ -194,13 +139,18 @@ pub fn write_clauses(
     let last = n - 1;
     ends[last] = 0;
     cells[0] = 1;
-    prepend_clauses(rows, cells, ends, 0, last, 1, r, false);
+    let start = Run {
+        first: last,
+        each: 1,
+    };
+    let root = SignedRow {
+        row: r,
+        negated: false,
+    };
+    prepend_clauses(rows, cells, ends, 0, start, root);
     let mut at: usize = 0;
-    let mut k: usize = 0;
-    while k < n {
-        let head = u32_to_usize(ends[k]);
-        at = write_chain(cells, literals, at, head);
-        ends[k] = usize_to_u32(at);
-        k += 1;
+    for k in 0..n {
+        at = write_chain(cells, literals, at, ends[k] as usize);
+        ends[k] = at as u32;
     }
 }

@@ -1,16 +1,15 @@
--- The measure of `prepend_clauses` is the row, from call to call and from turn to turn. The invariant: what is left is to put row r's clauses before
+-- The measure of `prepend_clauses` is the row, from call to call and from turn to turn. The invariant: what is left is to put the clauses of row `at` before
 -- the heads that stand now.
 use Rattle.listing.specs.Chain.{free_of}
 use Rattle.listing.proofs.PrependLoop.{PrependsLeft}
 use Rattle.listing.proofs.+prepend_clauses.Given as goal
 
 abbrev pub decreases-prepend_clauses : goal.decreases-prepend_clauses
-decreases-prepend_clauses l = l.root
+decreases-prepend_clauses l = l.root.row
 
-abbrev pub invariant-loop-q : goal.invariant-loop-q
-invariant-loop-q l =
-    PrependsLeft l.rows l.initial.cells l.cells l.initial.heads l.heads l.spare l.at l.many (free_of l.initial.cells) l.root l.first l.each
-    (free_of l.cells) l.r l.negated l.r_negated
+abbrev pub invariant-loop-atom : goal.invariant-loop-atom
+invariant-loop-atom l =
+    PrependsLeft l.rows l.initial.cells l.cells l.initial.heads l.heads l.spare l.fn.start l.run (free_of l.initial.cells) (free_of l.cells) l.fn.root l.at
 
-abbrev pub decreases-loop-q : goal.decreases-loop-q
-decreases-loop-q l = l.r
+abbrev pub decreases-loop-atom : goal.decreases-loop-atom
+decreases-loop-atom l = l.at.row
