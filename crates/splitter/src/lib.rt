@@ -4,25 +4,38 @@
 // docs/FORMAT.md has the rules; specs/ has them as definitions.
 #![tactic(auto)]
 
-ghost use Rattle.std.specs.Prelude.{◌≡◌, false, [], ◌∷◌, ◌<◌, ◌≤◌, length};
+ghost use Rattle.std.specs.Prelude.{◌≡◌, false, [], ◌∷◌, ◌+◌, ◌*◌, ◌<◌, ◌≤◌, length};
 ghost use Rattle.limits.specs.Limits.{rows_max, clauses_max, literals_max};
 ghost use Rattle.predicate.specs.Tree.{Tree, root_of, tree_at, Sound};
 ghost use Rattle.cnf.specs.Clause.{literal, clauses, total};
+ghost use Rattle.listing.specs.Chain.{places_max};
 ghost use Rattle.listing.specs.Listing.{Written};
 ghost use Rattle.splitter.specs.Split.{Gives, list_of, Splits};
 
-use cnf::{Size, Source, count_clauses, past_nots};
+use cnf::{SignedRow, Size, Source, count_clauses, past_nots};
 use limits::LITERALS_MAX;
 use listing::{literal_number, write_clauses};
-use predicate::Checked;
-use refusals::Refusal;
-use widths::{u16_to_usize, u32_to_usize, usize_to_u32};
+use refusals::{Refusal, Refused};
 
-// What a predicate is split into: how many clauses and literals were written, or a refusal and its place.
+// How many clauses and literals were listed.
 #[derive(Clone, Copy)]
-pub enum Listed {
-    Clauses(usize, usize),
-    Refused(Refusal, usize),
+pub struct Listed {
+    pub clauses: usize,
+    pub literals: usize,
+}
+
+impl From<Size> for Listed {
+    ghost use Rattle.std.specs.Prelude.{◌≡◌};
+    ghost use Rattle.splitter.specs.Split.{listed};
+
+    ghost from_gives = { λ size result. result ≡ listed size.clauses size.literals };
+
+    fn from(size: Size) -> Listed {
+        Listed {
+            clauses: size.clauses as usize,
+            literals: size.literals as usize,
+        }
+    }
 }
 
 // The most literals for which the small table of cells suffices: clearing the large one costs more than most predicates.
@@ -33,83 +46,119 @@ const PLACES_OF_FEW: usize = 2 * (FEW + 1);
 
 const PLACES_MAX: usize = 2 * (LITERALS_MAX as usize + 1);
 
-// Writes the n clauses of row r, which have t literals, by way of a table of cells that is large enough.
-fn write_counted(rows: &[u64], literals: &mut [u32], ends: &mut [u32], r: usize, n: usize, t: usize)
+// Writes the n clauses of row r by way of a table of cells with so many places. Never inlined: one table at a time stands on the stack.
+#[inline(never)]
+fn write_with<const PLACES: usize>(
+    rows: &[u64],
+    literals: &mut [u32],
+    ends: &mut [u32],
+    r: usize,
+    n: usize,
+)
     requires { Sound rows.now r × (r < rows_max)
         × (n ≡ length (clauses false (tree_at rows.now r)))
-        × (t ≡ total (clauses false (tree_at rows.now r)))
-        × ((n ≤ clauses_max) × (t ≤ literals_max))
-        × ((t ≤ length literals.old) × (n ≤ length ends.old)) }
+        × (2 * (1 + total (clauses false (tree_at rows.now r))) ≤ PLACES) × (PLACES ≤ places_max)
+        × (total (clauses false (tree_at rows.now r)) ≤ length literals.old) × (n ≤ length ends.old) }
     ensures { Written (clauses false (tree_at rows.now r))
         literals.old literals.new ends.old ends.new }
 {
-    if t <= FEW {
-        let mut few = [0u16; PLACES_OF_FEW];
-        write_clauses(rows, &mut few, literals, ends, r, n);
-        return;
-    }
-    let mut cells = [0u16; PLACES_MAX];
+    let mut cells = [0u16; PLACES];
     write_clauses(rows, &mut cells, literals, ends, r, n);
 }
 
+// Writes the clauses of row r, so many with so many literals, by way of a table of cells that is large enough.
+fn write_counted(rows: &[u64], literals: &mut [u32], ends: &mut [u32], r: usize, listed: Listed)
+    requires { Sound rows.now r × (r < rows_max)
+        × (listed.clauses ≡ length (clauses false (tree_at rows.now r)))
+        × (listed.literals ≡ total (clauses false (tree_at rows.now r)))
+        × (listed.literals ≤ literals_max)
+        × ((listed.literals ≤ length literals.old) × (listed.clauses ≤ length ends.old)) }
+    ensures { Written (clauses false (tree_at rows.now r))
+        literals.old literals.new ends.old ends.new }
+{
+    if listed.literals <= FEW {
+        write_with::<PLACES_OF_FEW>(rows, literals, ends, r, listed.clauses);
+    } else {
+        write_with::<PLACES_MAX>(rows, literals, ends, r, listed.clauses);
+    }
+}
+
 // Counts the clauses of row r, and lists them where there is room.
-fn list_many(rows: &[u64], literals: &mut [u32], ends: &mut [u32], r: usize) -> Listed
+#[tactic(auto, unfolding(crate::specs::Split::list_of, cnf::specs::Size::size_of, cnf::specs::Size::within_limits), using(cnf::proofs::Sizes::size_is))]
+fn list_many(
+    rows: &[u64],
+    literals: &mut [u32],
+    ends: &mut [u32],
+    r: usize,
+) -> Result<Listed, Refused>
     requires { Sound rows.now r × (r < rows_max) }
     ensures { Gives (list_of (clauses false (tree_at rows.now r)) literals.old ends.old)
         result literals.new ends.new }
 {
-    let size = count_clauses(rows, r, false);
-    let Size::Is(c, l) = size else {
-        return Listed::Refused(Refusal::TooMany, 0);
+    let root = SignedRow {
+        row: r,
+        negated: false,
     };
-    let n = u32_to_usize(c);
-    let t = u32_to_usize(l);
-    if literals.len() < t {
-        return Listed::Refused(Refusal::NoList, 0);
+    let size = count_clauses(rows, root).ok_or(Refusal::TooMany.at(0))?;
+    let listed = Listed::from(size);
+    if literals.len() < listed.literals || ends.len() < listed.clauses {
+        return Err(Refusal::NoList.at(0));
     }
-    if ends.len() < n {
-        return Listed::Refused(Refusal::NoList, 0);
-    }
-    write_counted(rows, literals, ends, r, n, t);
-    Listed::Clauses(n, t)
+    write_counted(rows, literals, ends, r, listed);
+    Ok(listed)
 }
 
 // Lists the one literal of an atom, if there is room.
-fn list_one(literals: &mut [u32], ends: &mut [u32], r: usize, negated: bool) -> Listed
-    requires { r < rows_max }
-    ensures { (t : Tree) → root_of t ≡ r
-        → Gives (list_of ((literal negated t ∷ []) ∷ []) literals.old ends.old)
+#[tactic(auto, unfolding(crate::specs::Split::list_of, cnf::specs::Clause::literal_number))]
+fn list_one(literals: &mut [u32], ends: &mut [u32], atom: SignedRow) -> Result<Listed, Refused>
+    requires { atom.row < rows_max }
+    ensures { (t : Tree) → root_of t ≡ atom.row
+        → Gives (list_of ((literal atom.negated t ∷ []) ∷ []) literals.old ends.old)
         result literals.new ends.new }
 {
-    if literals.len() == 0 {
-        return Listed::Refused(Refusal::NoList, 0);
+    if literals.is_empty() || ends.is_empty() {
+        return Err(Refusal::NoList.at(0));
     }
-    if ends.len() == 0 {
-        return Listed::Refused(Refusal::NoList, 0);
-    }
-    literals[0] = usize_to_u32(u16_to_usize(literal_number(r, negated)));
+    literals[0] = u32::from(literal_number(atom));
     ends[0] = 1;
-    Listed::Clauses(1, 1)
+    Ok(Listed {
+        clauses: 1,
+        literals: 1,
+    })
 }
 
 // Lists the clauses of the tree at row r. Most often, and in a run of NOTs, that is one literal: it needs no counting.
-pub fn list_tree(rows: &[u64], literals: &mut [u32], ends: &mut [u32], r: usize) -> Listed
+pub fn list_tree(
+    rows: &[u64],
+    literals: &mut [u32],
+    ends: &mut [u32],
+    r: usize,
+) -> Result<Listed, Refused>
     requires { Sound rows.now r × (r < rows_max) }
     ensures { Gives (list_of (clauses false (tree_at rows.now r)) literals.old ends.old)
         result literals.new ends.new }
 {
-    match past_nots(rows, r, false) {
-        Source::Atom(q, negated) => list_one(literals, ends, q, negated),
-        Source::Joined(_, _, _, _) => list_many(rows, literals, ends, r),
+    match past_nots(
+        rows,
+        SignedRow {
+            row: r,
+            negated: false,
+        },
+    ) {
+        Source::Atom(atom) => list_one(literals, ends, atom),
+        Source::Joined { .. } => list_many(rows, literals, ends, r),
     }
 }
 
 // Splits a predicate into clauses.
-pub fn split(text: &[u8], rows: &[u64], literals: &mut [u32], ends: &mut [u32]) -> Listed
+pub fn split(
+    text: &[u8],
+    rows: &[u64],
+    literals: &mut [u32],
+    ends: &mut [u32],
+) -> Result<Listed, Refused>
     ensures { Splits text.now rows.now literals.old ends.old result literals.new ends.new }
 {
-    match predicate::check(text, rows) {
-        Checked::Refused(why, place) => Listed::Refused(why, place),
-        Checked::Root(root) => list_tree(rows, literals, ends, root),
-    }
+    let root = predicate::check(text, rows)?;
+    list_tree(rows, literals, ends, root)
 }

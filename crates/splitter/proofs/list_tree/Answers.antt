@@ -2,19 +2,14 @@
 use Rattle.std.proofs.Common.{arith}
 use mathlib.Core.Bool.{false}
 use Rattle.predicate.proofs.Trees.{root_at}
-use Rattle.splitter.proofs.Answers.{listed_as}
+use Rattle.cnf.specs.Source.{signed}
 use Rattle.cnf.proofs.Sources.{source_is}
+use Rattle.splitter.proofs.Answers.{listed_as}
 use Rattle.splitter.proofs.list_tree.Goals as goal
 
 pub list_one-requires : goal.list_one-requires
-list_one-requires c =
-    let pre = c.requires in
-    let past-nots = c.past_nots in
-    omega (arith, (source_is false pre.0 past-nots.ensures c.in-Atom.is).0, pre.1)
+list_one-requires c = omega (arith, (source_is (signed false c.args.r) c.requires.0 c.past_nots.ensures c.in-Atom.is).0)
 
 pub returns-in-Atom : goal.returns-in-Atom
 returns-in-Atom c =
-    let pre = c.requires in
-    let past-nots = c.past_nots in
-    let list-one = c.list_one in
-    listed_as _ _ (source_is false pre.0 past-nots.ensures c.in-Atom.is).1 (list-one.ensures _ (root_at _ _))
+    listed_as _ _ (source_is (signed false c.args.r) c.requires.0 c.past_nots.ensures c.in-Atom.is).1 (c.list_one.ensures _ (root_at _ _))
