@@ -1,95 +1,70 @@
--- What an atom tests, by its row's shape and kind: the cases of `equal_test`, and `test_of` and `leaf_of` of the tree at a row.
+-- What a row tests, by its shape and kind: `test_of` and `leaf_of` of the tree at a row.
 -- Assumes nothing.
-use mathlib.Core.Path.{◌≡◌, refl, sym, ap, ◌∙◌}
+use mathlib.Core.Path.{◌≡◌, refl, sym, ap, subst, ◌∙◌}
 use Prim.Native.Nat.{ℕ}
-use mathlib.Core.Bool.{Bool, true, false, ◌&&◌, and-false}
 use mathlib.Core.List.{List, map}
-use borrow.Author.Tests.{eqb-true, eq-eqb, ne_eqb}
-use lib.Dec.{leb}
+use borrow.Author.Tests.{eq-eqb, ne_eqb}
+use Rattle.std.specs.Prelude.{Option, Some, None}
+use Rattle.std.specs.Option.{option_and_then}
 use Rattle.rows.specs.Layout.{row_at}
 use Rattle.rows.specs.Label.{Label, leaf_label}
 use Rattle.rows.specs.declared.Row.{Row}
 use Rattle.predicate.specs.Kind as kind
 use Rattle.predicate.specs.Row.{shape_at, arity_of, operands_of}
-use Rattle.predicate.specs.Tree.{Tree, node_of, tree_at, Sound}
+use Rattle.predicate.specs.Tree.{node_of, tree_at, Sound}
 use Rattle.predicate.specs.declared.Shape.{Shape}
 use Rattle.predicate.specs.declared.Shape.TheVariants as shape
 use Rattle.predicate.proofs.Shapes.{node_at}
-use Rattle.values.specs.Value.{constant_of_label}
-use Rattle.columns.specs.Lookup.{no_label, leaf_of, is_column, is_constant, equal_test, is_test, test_of}
-use Rattle.columns.specs.Partial.{is_leaf}
-use Rattle.columns.specs.declared.test.Test.{Test}
-use Rattle.columns.specs.declared.test.Test.TheVariants.{Other, Equals}
-
--- ---- labels
-
--- a column is no constant
-column_only : (v : Label) → is_column v ≡ true → is_constant v ≡ false
-unfolding is_column is_constant
-column_only v e = ap (λ (k : ℕ). leb kind.null k && leb k kind.string) (eqb-true v.kind kind.column e)
-
-module _ (v w : Label) where
-  pub equal_left : is_column v ≡ true → is_constant w ≡ true → Equals v.x (constant_of_label w) ≡ equal_test v w
-  unfolding equal_test
-  equal_left e f = rw (e, f, equal_test)
-
-  pub equal_left_none : is_column v ≡ true → is_constant w ≡ false → Other ≡ equal_test v w
-  unfolding equal_test
-  equal_left_none e f = rw (e, f, column_only v e, and-false (is_column w), equal_test)
-
-  pub equal_right : is_column v ≡ false → is_column w ≡ true → is_constant v ≡ true → Equals w.x (constant_of_label v) ≡ equal_test v w
-  unfolding equal_test
-  equal_right e f g = rw (e, f, g, equal_test)
-
-  pub equal_right_none : is_column v ≡ false → is_column w ≡ true → is_constant v ≡ false → Other ≡ equal_test v w
-  unfolding equal_test
-  equal_right_none e f g = rw (e, f, g, equal_test)
-
-  pub equal_none : is_column v ≡ false → is_column w ≡ false → Other ≡ equal_test v w
-  unfolding equal_test
-  equal_none e f = rw (e, f, equal_test)
-
--- ---- trees
-
-abbrev label_if : Bool → Row → Label
-label_if true w = leaf_label w
-label_if false w = no_label
-
-leaf_node : (s : Shape) (r : ℕ) (w : Row) (ts : List Tree) (b : Bool) → is_leaf s ≡ b → leaf_of (node_of s r w ts) ≡ label_if b w
-unfolding leaf_of node_of is_leaf
-leaf_node shape.Leaf r w ts b e = ap (λ (c : Bool). label_if c w) e
-leaf_node (shape.One x) r w ts b e = ap (λ (c : Bool). label_if c w) e
-leaf_node (shape.Two x y) r w ts b e = ap (λ (c : Bool). label_if c w) e
-leaf_node (shape.Both x y) r w ts b e = ap (λ (c : Bool). label_if c w) e
-leaf_node (shape.Either x y) r w ts b e = ap (λ (c : Bool). label_if c w) e
-leaf_node (shape.Not x) r w ts b e = ap (λ (c : Bool). label_if c w) e
+use Rattle.columns.specs.Lookup.{leaf_of, equal_test, is_test, test_of}
 
 module _ {l : List ℕ} {r : ℕ} (h : Sound l r) {s : Shape} (e : s ≡ shape_at l r) where
-  pub leaf_on : is_leaf s ≡ true → leaf_label (row_at l r) ≡ leaf_of (tree_at l r)
-  leaf_on f = sym (ap leaf_of (node_at h e refl) ∙ leaf_node s r (row_at l r) (map (tree_at l) (operands_of (arity_of s))) true f)
+  pub leaf_on : {w : Row} → s ≡ shape.Leaf → w ≡ row_at l r → Some (leaf_label w) ≡ leaf_of (tree_at l r)
+  unfolding leaf_of node_of
+  leaf_on f g = ap (λ (v : Row). Some (leaf_label v)) g ∙ sym (ap leaf_of (node_at h e f))
 
-  pub leaf_off : is_leaf s ≡ false → no_label ≡ leaf_of (tree_at l r)
-  leaf_off f = sym (ap leaf_of (node_at h e refl) ∙ leaf_node s r (row_at l r) (map (tree_at l) (operands_of (arity_of s))) false f)
+  pub leaf_off : (s ≡ shape.Leaf → ⊥) → None ≡ leaf_of (tree_at l r)
+  unfolding leaf_of node_of
+  leaf_off other = sym (ap leaf_of (node_at h e refl) ∙ by s other)
+    where
+      by : (k : Shape) → (k ≡ shape.Leaf → ⊥) → leaf_of (node_of k r (row_at l r) (map (tree_at l) (operands_of (arity_of k)))) ≡ None
+      by shape.Leaf f = absurd (f refl)
+      by (shape.One x) f = refl
+      by (shape.Two x y) f = refl
+      by (shape.Both x y) f = refl
+      by (shape.Either x y) f = refl
+      by (shape.Not x) f = refl
 
-module _ {l : List ℕ} {r : ℕ} (h : Sound l r) {s : Shape} (e : s ≡ shape_at l r) where
-  -- a row tests what its node tests
-  pub test_node : {k : Shape} {t : Test} → s ≡ k → test_of (node_of k r (row_at l r) (map (tree_at l) (operands_of (arity_of k)))) ≡ t →
-      t ≡ test_of (tree_at l r)
-  test_node f g = sym (ap test_of (node_at h e f) ∙ g)
+  module _ {w : Row} (g : w ≡ row_at l r) where
+    module _ {x : ℕ} (f : s ≡ shape.One x) where
+      pub test_is : {m : Option Label} → w.kind ≡ kind.is → m ≡ leaf_of (tree_at l x) → option_and_then (λ u. is_test u w.y) m ≡ test_of (tree_at l r)
+      unfolding test_of node_of arity_of operands_of
+      test_is {m} i j =
+          subst (λ (v : Row). v.kind ≡ kind.is → option_and_then (λ u. is_test u v.y) m ≡ test_of (tree_at l r)) (sym g)
+          (λ k. rw j (sym (ap test_of (node_at h e f) ∙ rw (eq-eqb (row_at l r).kind kind.is k, test_of)))) i
 
-  pub test_is : {x : ℕ} → s ≡ shape.One x → (row_at l r).kind ≡ kind.is → is_test (leaf_of (tree_at l x)) (row_at l r).y ≡ test_of (tree_at l r)
-  unfolding test_of node_of arity_of operands_of
-  test_is f g = test_node f (rw (eq-eqb (row_at l r).kind kind.is g, test_of))
+      pub test_unary : (w.kind ≡ kind.is → ⊥) → None ≡ test_of (tree_at l r)
+      unfolding test_of node_of arity_of operands_of
+      test_unary i = sym (ap test_of (node_at h e f) ∙ rw (ne_eqb (row_at l r).kind kind.is (rw g at i), test_of))
 
-  pub test_unary : {x : ℕ} → s ≡ shape.One x → ((row_at l r).kind ≡ kind.is → ⊥) → Other ≡ test_of (tree_at l r)
-  unfolding test_of node_of arity_of operands_of
-  test_unary f g = test_node f (rw (ne_eqb (row_at l r).kind kind.is g, test_of))
+    module _ {x y : ℕ} (f : s ≡ shape.Two x y) where
+      pub test_equal : {m k : Option Label} → w.kind ≡ kind.equal → m ≡ leaf_of (tree_at l x) → k ≡ leaf_of (tree_at l y) →
+          option_and_then (λ u. option_and_then (equal_test u) k) m ≡ test_of (tree_at l r)
+      unfolding test_of node_of arity_of operands_of
+      test_equal i j k = rw (j, k) (sym (ap test_of (node_at h e f) ∙ rw (eq-eqb (row_at l r).kind kind.equal (rw g at i), test_of)))
 
-  pub test_equal : {x y : ℕ} → s ≡ shape.Two x y → (row_at l r).kind ≡ kind.equal →
-      equal_test (leaf_of (tree_at l x)) (leaf_of (tree_at l y)) ≡ test_of (tree_at l r)
-  unfolding test_of node_of arity_of operands_of
-  test_equal f g = test_node f (rw (eq-eqb (row_at l r).kind kind.equal g, test_of))
+      pub test_binary : (w.kind ≡ kind.equal → ⊥) → None ≡ test_of (tree_at l r)
+      unfolding test_of node_of arity_of operands_of
+      test_binary i = sym (ap test_of (node_at h e f) ∙ rw (ne_eqb (row_at l r).kind kind.equal (rw g at i), test_of))
 
-  pub test_binary : {x y : ℕ} → s ≡ shape.Two x y → ((row_at l r).kind ≡ kind.equal → ⊥) → Other ≡ test_of (tree_at l r)
-  unfolding test_of node_of arity_of operands_of
-  test_binary f g = test_node f (rw (ne_eqb (row_at l r).kind kind.equal g, test_of))
+  pub test_other : ((x : ℕ) → s ≡ shape.One x → ⊥) → ((x y : ℕ) → s ≡ shape.Two x y → ⊥) → None ≡ test_of (tree_at l r)
+  unfolding test_of node_of
+  test_other one two = sym (ap test_of (node_at h e refl) ∙ by s one two)
+    where
+      by : (k : Shape) → ((x : ℕ) → k ≡ shape.One x → ⊥) → ((x y : ℕ) → k ≡ shape.Two x y → ⊥) →
+          test_of (node_of k r (row_at l r) (map (tree_at l) (operands_of (arity_of k)))) ≡ None
+      by shape.Leaf f g = refl
+      by (shape.One x) f g = absurd (f x refl)
+      by (shape.Two x y) f g = absurd (g x y refl)
+      by (shape.Both x y) f g = refl
+      by (shape.Either x y) f g = refl
+      by (shape.Not x) f g = refl

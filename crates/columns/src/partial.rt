@@ -1,133 +1,99 @@
 // A lookup as the literals of a clause make it, one after the other.
-ghost use Rattle.std.specs.Prelude.{◌≡◌, ◌≤◌};
+ghost use Rattle.std.specs.Prelude.{Some, ◌≡◌, ◌≤◌};
 ghost use Rattle.limits.specs.Limits.{literals_max};
 ghost use Rattle.predicate.specs.Tree.{tree_at, Sound};
 ghost use Rattle.cnf.specs.Clause.{literal};
-ghost use Rattle.columns.specs.Lookup.{literal_test, tests_column, value_in};
-ghost use Rattle.columns.specs.Partial.{value_list, with_value, from_first, with_test, value_count};
+ghost use Rattle.columns.specs.Lookup.{literal_test};
+ghost use Rattle.columns.specs.Partial.{with_value, with_test, value_count};
 
 use crate::test::{Test, test_at};
-use values::{Value, is_undefined, value_of};
+use cnf::SignedRow;
+use values::Value;
 
-// The value that a test looks for, or nothing.
+// A lookup on a column: how many values it has, and the wanted one if there are so many.
 #[derive(Clone, Copy)]
-pub enum TestValue {
-    Nothing,
-    One(Value),
+pub struct ColumnValue {
+    pub column: usize,
+    pub values: usize,
+    pub value: Value,
 }
 
-// What the literals so far make: there are none yet; they are no lookup; or they are one on a column, with so many values, and with the value that is
-// wanted if there are so many.
+// What the literals so far make: there are none yet; they are no lookup; or they are one on a column. None and not yet differ, so no Option would do.
 #[derive(Clone, Copy)]
 pub enum PartialLookup {
     Empty,
     NotLookup,
-    OnColumn(usize, usize, Value),
+    OnColumn(ColumnValue),
 }
 
-// Answers the value that a test looks for.
-fn value_in(test: Test) -> TestValue
-    ensures { value_list result ≡ value_in test }
-{
-    match test {
-        Test::Other => TestValue::Nothing,
-        Test::Equals(_, constant) => {
-            let value = value_of(constant);
-            if is_undefined(value) {
-                TestValue::Nothing
+impl ColumnValue {
+    // Adds the value that a test looks for, if there is one.
+    #[tactic(auto, unfolding(crate::specs::Partial::with_value))]
+    fn with_value(self, wanted: usize, found: Option<Value>) -> ColumnValue
+        requires { self.values ≤ literals_max }
+        ensures { result ≡ with_value wanted self found }
+    {
+        let Some(value) = found else {
+            return self;
+        };
+        ColumnValue {
+            column: self.column,
+            values: self.values + 1,
+            value: if self.values == wanted {
+                value
             } else {
-                TestValue::One(value)
-            }
-        }
-        Test::Is(_, what) => {
-            if what == 0 {
-                TestValue::One(Value::Null)
-            } else {
-                TestValue::One(Value::Float(0.0 / 0.0))
-            }
+                self.value
+            },
         }
     }
 }
 
-// Adds the value that a test looks for, if there is one.
-fn with_value(wanted: usize, column: usize, many: usize, kept: Value, test: Test) -> PartialLookup
-    requires { many ≤ literals_max }
-    ensures { result ≡ with_value wanted column many kept (value_in test) }
-{
-    let found = value_in(test);
-    let TestValue::One(value) = found else {
-        return PartialLookup::OnColumn(column, many, kept);
-    };
-    let more = many + 1;
-    if many == wanted {
-        PartialLookup::OnColumn(column, more, value)
-    } else {
-        PartialLookup::OnColumn(column, more, kept)
-    }
-}
-
-// Starts with the first literal, which says which column it must be.
-fn from_first(wanted: usize, test: Test) -> PartialLookup
-    ensures { result ≡ from_first wanted test }
-{
-    match test {
-        Test::Other => PartialLookup::NotLookup,
-        Test::Equals(column, _) => with_value(wanted, column, 0, Value::Null, test),
-        Test::Is(column, _) => with_value(wanted, column, 0, Value::Null, test),
-    }
-}
-
-// Tells if it is a test of this column.
-fn tests_column(column: usize, test: Test) -> bool
-    ensures { result ≡ tests_column column test }
-{
-    match test {
-        Test::Other => false,
-        Test::Equals(tested, _) => column == tested,
-        Test::Is(tested, _) => column == tested,
-    }
-}
-
-// Adds one test.
-fn with_test(wanted: usize, partial: PartialLookup, test: Test) -> PartialLookup
-    requires { value_count partial ≤ literals_max }
-    ensures { result ≡ with_test wanted partial test }
-{
-    match partial {
-        PartialLookup::Empty => from_first(wanted, test),
-        PartialLookup::NotLookup => PartialLookup::NotLookup,
-        PartialLookup::OnColumn(column, many, kept) => {
-            if tests_column(column, test) {
-                with_value(wanted, column, many, kept, test)
-            } else {
-                PartialLookup::NotLookup
-            }
-        }
+impl PartialLookup {
+    // Adds one test. The first says which column it must be.
+    #[tactic(auto, unfolding(crate::specs::Partial::with_test, crate::specs::Partial::value_count))]
+    fn with_test(self, wanted: usize, test: Test) -> PartialLookup
+        requires { value_count self ≤ literals_max }
+        ensures { result ≡ with_test wanted self (Some test) }
+    {
+        let so_far = match self {
+            PartialLookup::Empty => ColumnValue {
+                column: test.column,
+                values: 0,
+                value: Value::Null,
+            },
+            PartialLookup::OnColumn(so_far) if so_far.column == test.column => so_far,
+            _ => return PartialLookup::NotLookup,
+        };
+        PartialLookup::OnColumn(so_far.with_value(wanted, test.value))
     }
 }
 
 // Answers what a literal tests: no column, if it is negated.
-fn literal_test(rows: &[u64], atom: usize, negated: bool) -> Test
-    requires { Sound rows.now atom }
-    ensures { result ≡ literal_test (literal negated (tree_at rows.now atom)) }
+#[tactic(auto, unfolding(crate::specs::Lookup::literal_test))]
+fn literal_test(rows: &[u64], atom: SignedRow) -> Option<Test>
+    requires { Sound rows.now atom.row }
+    ensures { result ≡ literal_test (literal atom.negated (tree_at rows.now atom.row)) }
 {
-    if negated {
-        Test::Other
+    if atom.negated {
+        None
     } else {
-        test_at(rows, atom)
+        test_at(rows, atom.row)
     }
 }
 
 // Adds one literal, by its atom's row.
+#[tactic(auto, unfolding(crate::specs::Partial::with_test))]
 pub fn with_literal(
     rows: &[u64],
-    atom: usize,
-    negated: bool,
+    atom: SignedRow,
     wanted: usize,
     partial: PartialLookup,
 ) -> PartialLookup
-    requires { Sound rows.now atom × (value_count partial ≤ literals_max) }
-    ensures { result ≡ with_test wanted partial (literal_test (literal negated (tree_at rows.now atom))) }
+    requires { Sound rows.now atom.row × (value_count partial ≤ literals_max) }
+    ensures { result ≡ with_test wanted partial (literal_test (literal atom.negated (tree_at rows.now atom.row))) }
 {
-    with_test(wanted, partial, literal_test(rows, atom, negated))
+    match literal_test(rows, atom) {
+        Some(test) => partial.with_test(wanted, test),
+        None => PartialLookup::NotLookup,
+    }
 }

@@ -15,7 +15,8 @@ use Rattle.predicate.specs.Kind as kind
 use Rattle.predicate.specs.Row.{is_one_of, classes, class_in, class_of, allowed_of}
 use Rattle.values.specs.Value.{signed_of, pattern_of, value_by, value_of, constant_of}
 use Rattle.values.specs.declared.Constant.{Constant}
-use Rattle.values.proofs.NanPatterns.{one_nan_pattern, not_a_nan}
+use Rattle.std.proofs.lemmas.Float.{T_from_false}
+use Rattle.values.proofs.NanPatterns.{one_nan_pattern}
 
 pub both_true : (a b : Bool) → (a && b) ≡ true → (a ≡ true) × (b ≡ true)
 both_true true true e = (refl, refl)
@@ -55,7 +56,7 @@ module _ (text : List ℕ) (x y : ℕ) where
   float_back : x < 2 ^ 64 → is_nan (of_bits binary64 x) ≡ false → allowed_of text (class_of kind.float) x y ≡ true
       → constant_of (value_by kind.float x y) ≡ constant_by kind.float x y
   unfolding allowed_of class_of class_in classes is_one_of constant_of value_by
-  float_back h n e = ap₂ (constant_by kind.float) (to_bits-of_bits binary64 x h (not_a_nan (of_bits binary64 x) n)) (sym (eqb-true y 0 e))
+  float_back h n e = ap₂ (constant_by kind.float) (to_bits-of_bits binary64 x h (T_from_false (is_nan (of_bits binary64 x)) n)) (sym (eqb-true y 0 e))
 
   string_back : constant_of (value_by kind.string x y) ≡ constant_by kind.string x y
   unfolding constant_of value_by

@@ -1,5 +1,3 @@
--- Laws of values, of their patterns and of their constants.
+-- Laws of values and of their constants.
 pub mod NanPatterns
-pub mod SignedPatterns
-pub mod ConstantKinds
 pub mod ConstantsReadBack

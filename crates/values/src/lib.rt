@@ -2,14 +2,11 @@
 #![tactic(auto)]
 
 ghost use Rattle.std.specs.Prelude.{◌≡◌};
-ghost use Rattle.std.specs.Float.{binary64};
-ghost use Rattle.std.specs.Float.Ieee.{of_bits, to_bits};
-ghost use Rattle.rows.specs.Label.{leaf_label};
-ghost use Rattle.values.specs.Value.{signed_of, pattern_of, constant_of_label, value_of, constant_of, is_undefined};
+ghost use Rattle.values.specs.Value.{is_undefined};
 
 use predicate::kind;
 use rows::Row;
-use widths::u64_to_usize;
+use std::num::{f64_from_bits_with_nan, f64_to_bits_with_nan};
 
 // A constant, as its kind and two numbers. That is three numbers, whatever a row has.
 #[derive(Clone, Copy)]
@@ -29,135 +26,75 @@ pub enum Value {
     String { start: usize, length: usize },
 }
 
-// All bits of a pattern but the sign; and those of infinity: a NaN has more.
-const LOW_BITS: u64 = 0x7fff_ffff_ffff_ffff;
-
-const INFINITY_BITS: u64 = 0x7ff0_0000_0000_0000;
-
-// The pattern that stands for every NaN.
-const NAN_BITS: u64 = 0x7ff8_0000_0000_0000;
-
-// Where patterns of negative integers begin, and the last of them, that of -1.
-const NEGATIVE_FROM: u64 = 0x8000_0000_0000_0000;
-
-const MINUS_ONE: u64 = 0xffff_ffff_ffff_ffff;
-
-// Answers the float of any pattern; each pattern of a NaN gives the one NaN.
-pub fn float_of(bits: u64) -> f64
-    ensures { result ≡ of_bits binary64 bits }
-{
-    let low = bits & LOW_BITS;
-    if INFINITY_BITS < low {
-        return 0.0 / 0.0;
-    }
-    f64::from_bits(bits)
-}
-
-// Answers the pattern of any float, and of a NaN always the same one: what a computed NaN holds at run time is not said.
-pub fn bits_of(x: f64) -> u64
-    ensures { result ≡ to_bits binary64 x }
-{
-    if x != x {
-        return NAN_BITS;
-    }
-    f64::to_bits(x)
-}
-
-// Answers the number whose two's complement pattern this is.
-pub fn signed_of(x: u64) -> i64
-    ensures { result ≡ signed_of x }
-{
-    if x < NEGATIVE_FROM {
-        return x as i64;
-    }
-    -1 - ((MINUS_ONE - x) as i64)
-}
-
-// Answers the two's complement pattern of a number.
-pub fn pattern_of(n: i64) -> u64
-    ensures { result ≡ pattern_of n }
-{
-    if 0 <= n {
-        return n as u64;
-    }
-    MINUS_ONE - ((-1 - n) as u64)
-}
-
 // Takes the constant out of its row.
-pub fn constant_of_row(row: Row) -> Constant
-    ensures { result ≡ constant_of_label (leaf_label row) }
-{
-    Constant {
-        kind: row.kind,
-        x: row.x,
-        y: row.y,
+impl From<Row> for Constant {
+    ghost use Rattle.std.specs.Prelude.{◌≡◌};
+    ghost use Rattle.rows.specs.Label.{leaf_label};
+    ghost use Rattle.values.specs.Value.{constant_of_label};
+
+    ghost from_gives = { λ row c. c ≡ constant_of_label (leaf_label row) };
+
+    fn from(row: Row) -> Constant {
+        Constant {
+            kind: row.kind,
+            x: row.x,
+            y: row.y,
+        }
     }
 }
 
-// Answers the value that a constant stands for.
-pub fn value_of(constant: Constant) -> Value
-    ensures { result ≡ value_of constant }
-{
-    let kind = constant.kind;
-    let x = constant.x;
-    let y = constant.y;
-    match kind {
-        kind::BOOLEAN => Value::Boolean(x == 1),
-        kind::INTEGER => Value::Integer(signed_of(x)),
-        kind::FLOAT => Value::Float(float_of(x)),
-        kind::STRING => Value::String {
-            start: u64_to_usize(x),
-            length: u64_to_usize(y),
-        },
-        _ => Value::Null,
+// Answers the value that a constant stands for. Each pattern of a NaN gives the one NaN.
+impl From<Constant> for Value {
+    ghost use Rattle.std.specs.Prelude.{◌≡◌};
+    ghost use Rattle.values.specs.Value.{value_of};
+
+    ghost from_gives = { λ c v. v ≡ value_of c };
+
+    #[tactic(auto, unfolding(crate::specs::Value::value_of, crate::specs::Value::value_by, crate::specs::Value::signed_of))]
+    fn from(constant: Constant) -> Value {
+        match constant.kind {
+            kind::BOOLEAN => Value::Boolean(constant.x == 1),
+            kind::INTEGER => Value::Integer(constant.x.cast_signed()),
+            kind::FLOAT => Value::Float(f64_from_bits_with_nan(constant.x)),
+            kind::STRING => Value::String {
+                start: constant.x as usize,
+                length: constant.y as usize,
+            },
+            _ => Value::Null,
+        }
     }
 }
 
-// Answers the constant that stands for a value.
-pub fn constant_of(value: Value) -> Constant
-    ensures { result ≡ constant_of value }
-{
-    match value {
-        Value::Null => Constant {
-            kind: kind::NULL,
-            x: 0,
-            y: 0,
-        },
-        Value::Boolean(b) => Constant {
-            kind: kind::BOOLEAN,
-            x: if b { 1 } else { 0 },
-            y: 0,
-        },
-        Value::Integer(n) => Constant {
-            kind: kind::INTEGER,
-            x: pattern_of(n),
-            y: 0,
-        },
-        Value::Float(f) => Constant {
-            kind: kind::FLOAT,
-            x: bits_of(f),
-            y: 0,
-        },
-        Value::String { start, length } => Constant {
-            kind: kind::STRING,
-            x: start as u64,
-            y: length as u64,
-        },
+// Answers the constant that stands for a value. A NaN has always the same pattern: what a computed NaN holds at run time is not said.
+impl From<Value> for Constant {
+    ghost use Rattle.std.specs.Prelude.{◌≡◌};
+    ghost use Rattle.values.specs.Value.{constant_of};
+
+    ghost from_gives = { λ v c. c ≡ constant_of v };
+
+    #[tactic(auto, unfolding(crate::specs::Value::constant_of, crate::specs::Value::pattern_of))]
+    fn from(value: Value) -> Constant {
+        let (kind, x, y) = match value {
+            Value::Null => (kind::NULL, 0, 0),
+            Value::Boolean(b) => (kind::BOOLEAN, u64::from(b), 0),
+            Value::Integer(n) => (kind::INTEGER, n.cast_unsigned(), 0),
+            Value::Float(f) => (kind::FLOAT, f64_to_bits_with_nan(f), 0),
+            Value::String { start, length } => (kind::STRING, start as u64, length as u64),
+        };
+        Constant { kind, x, y }
     }
 }
 
-// Tells if it is NULL or NaN: no cell equals these.
-pub fn is_undefined(value: Value) -> bool
-    ensures { result ≡ is_undefined value }
-{
-    match value {
-        Value::Null => true,
-        Value::Boolean(_) => false,
-        Value::Integer(_) => false,
-        Value::Float(x) => x != x,
-        Value::String {
-            start: _,
-            length: _,
-        } => false,
+impl Value {
+    // Tells if it is NULL or NaN: no cell equals these.
+    #[tactic(auto, unfolding(crate::specs::Value::is_undefined))]
+    pub fn is_undefined(self) -> bool
+        ensures { result ≡ is_undefined self }
+    {
+        match self {
+            Value::Null => true,
+            Value::Float(x) => x.is_nan(),
+            Value::Boolean(_) | Value::Integer(_) | Value::String { .. } => false,
+        }
     }
 }
