@@ -1,81 +1,82 @@
 -- What is answered of a clause: from the lookup that its literals make, and from what the rows are read as; and the entries' answers from that.
 -- Assumes nothing.
 use mathlib.Core.Path.{◌≡◌, refl, sym, ap, ◌∙◌}
-use Prim.Native.Nat.{ℕ, ◌+◌, ◌*◌, ◌≤◌, ◌<◌}
+use Prim.Native.Nat.{ℕ, ◌+◌, ◌≤◌, ◌<◌}
 use mathlib.Core.Bool.{Bool, true, false, ◌||◌}
 use mathlib.Core.List.{List, [], ◌∷◌, map}
 use native.Mathlib.Omega.{arith}
 use borrow.Author.Tests.{lt-ltb, le-ltb, ltb-false}
 use lib.Dec.{ltb}
 use lib.ListN.{length, get_or}
+use Rattle.std.specs.Prelude.{Option, Some, None, Ok, Err}
 use Rattle.limits.specs.Limits.{rows_max, clauses_max, literals_max}
+use Rattle.refusals.specs.Refusal.{refused as refusal_at}
 use Rattle.refusals.specs.declared.Refusal.{Refusal}
 use Rattle.refusals.specs.declared.Refusal.TheVariants as refusal
+use Rattle.refusals.specs.declared.Refused.{Refused}
 use Rattle.predicate.specs.Tree.{Tree, tree_at, Sound}
 use Rattle.predicate.specs.Read.{Reading, one, refused}
 use Rattle.cnf.specs.Clause.{Literal, clauses, total}
 use Rattle.cnf.specs.Size.{size_of}
 use Rattle.cnf.specs.declared.Size.{Size}
-use Rattle.cnf.specs.declared.Size.TheVariants as size
 use Rattle.cnf.proofs.Sizes.{size_is, size_many}
-use Rattle.values.specs.declared.Value.{Value}
-use Rattle.values.specs.declared.Value.TheVariants as value
+use Rattle.values.specs.declared.Value.TheVariants.{Null}
 use Rattle.columns.specs.Lookup.{ClauseLookup, on, none, literal_test, lookup_in, clause_lookup}
 use Rattle.columns.specs.Partial.{with_tests, value_count}
 use Rattle.columns.specs.declared.test.Test.{Test}
+use Rattle.columns.specs.declared.partial.ColumnValue.{ColumnValue}
 use Rattle.columns.specs.declared.partial.PartialLookup.TheVariants as partial
 use Rattle.columns.proofs.PartialLookups.{partial_of, partial_of_clause}
-use Rattle.lookup.specs.Answer.{Lookup, on_column, refuse, lookup_or_refusal, lookup_among, lookup_of, looked_up_of, found_of}
-use Rattle.lookup.specs.ByNumber.{CountsBelow, HasClause, CanFind, answer_of, partial_answer}
-use Rattle.lookup.specs.declared.ClauseAnswer.TheVariants as answer
-use Rattle.lookup.specs.declared.LookedUp.TheVariants as looked_up
-use Rattle.lookup.specs.declared.FoundValue.TheVariants as found_value
+use Rattle.lookup.specs.Answer.{Lookup, on_column, refuse, lookup_or_refusal, lookup_among, lookup_of, column_lookup, looked_up_of, found_of}
+use Rattle.lookup.specs.ByNumber.{root_clause, CountsBelow, HasClause, CanFind, answer_of, partial_answer}
+use Rattle.lookup.specs.declared.counts.ClauseCounts.{ClauseCounts}
 
 -- ---- from the clause to its answer
 
-pub can_find_first : {l tab : List ℕ} {r k : ℕ} → HasClause l r k → 2 * r + 1 < length tab → CountsBelow l tab (r + 1) → CanFind l tab r false k partial.Empty
+pub can_find_first : {l : List ℕ} {tab : List ClauseCounts} {r k : ℕ} → HasClause l r k → r < length tab → CountsBelow l tab (r + 1) →
+    CanFind l tab (root_clause r k) partial.Empty
 unfolding value_count
 can_find_first h room counts =
-    record { sound = h.sound; low = h.low; room = room; counts = counts; few = h.few; inside = h.inside; small = omega (arith, h.small) }
+    record { sound = h.sound; room = room; counts = counts; few = h.few; inside = h.inside; small = omega (arith, h.small) }
 
 answer_of_partial : (n : ℕ) (k : ClauseLookup) → partial_answer (partial_of n k) ≡ answer_of n (lookup_or_refusal k)
 unfolding partial_answer partial_of answer_of lookup_or_refusal
 answer_of_partial n (on c vs) = refl
 answer_of_partial n none = refl
 
-answer_of_tests : (n : ℕ) (ts : List Test) → partial_answer (with_tests n partial.Empty ts) ≡ answer_of n (lookup_or_refusal (lookup_in ts))
+answer_of_tests : (n : ℕ) (ts : List (Option Test)) → partial_answer (with_tests n partial.Empty ts) ≡ answer_of n (lookup_or_refusal (lookup_in ts))
 unfolding with_tests partial_answer answer_of lookup_or_refusal lookup_in
 answer_of_tests n [] = refl
 answer_of_tests n (t ∷ ts) = ap partial_answer (partial_of_clause n t ts) ∙ answer_of_partial n (lookup_in (t ∷ ts))
 
-module _ (cs : List (List Literal)) (k n : ℕ) {s : Size} (is : s ≡ size_of cs) where
-  pub lookup_too_many : s ≡ size.TooMany → answer.Refused refusal.TooMany 0 ≡ answer_of n (lookup_among cs k)
+module _ (cs : List (List Literal)) (k n : ℕ) {s : Option Size} (is : s ≡ size_of cs) where
+  pub lookup_too_many : s ≡ None → Err (refusal_at refusal.TooMany 0) ≡ answer_of n (lookup_among cs k)
   unfolding lookup_among answer_of
   lookup_too_many e = by (ltb clauses_max (length cs)) (ltb literals_max (total cs)) refl refl
     where
-      by : (p q : Bool) → ltb clauses_max (length cs) ≡ p → ltb literals_max (total cs) ≡ q → answer.Refused refusal.TooMany 0 ≡ answer_of n (lookup_among cs k)
+      by : (p q : Bool) → ltb clauses_max (length cs) ≡ p → ltb literals_max (total cs) ≡ q → Err (refusal_at refusal.TooMany 0) ≡ answer_of n (lookup_among cs k)
       by true q f g = rw (f, lookup_among)
       by false true f g = rw (f, g, lookup_among)
       by false false f g = absurd (size_many cs (sym is ∙ e) (ltb-false clauses_max (length cs) f) (ltb-false literals_max (total cs) g))
 
-  module _ {c m : ℕ} (e : s ≡ size.Is c m) where
-    count_facts : (c ≡ length cs) × (m ≡ total cs) × (length cs ≤ clauses_max) × (total cs ≤ literals_max)
+  module _ {z : Size} (e : s ≡ Some z) where
+    count_facts : (z.clauses ≡ length cs) × (z.literals ≡ total cs) × (length cs ≤ clauses_max) × (total cs ≤ literals_max)
     count_facts = size_is cs (sym is ∙ e)
 
     in_bounds : (ltb clauses_max (length cs) || ltb literals_max (total cs)) ≡ false
     in_bounds = rw (le-ltb clauses_max (length cs) count_facts.2, le-ltb literals_max (total cs) count_facts.3)
 
-    pub lookup_no_such : c ≤ k → answer.Refused refusal.NoSuch 0 ≡ answer_of n (lookup_among cs k)
+    pub lookup_no_such : z.clauses ≤ k → Err (refusal_at refusal.NoSuch 0) ≡ answer_of n (lookup_among cs k)
     unfolding lookup_among answer_of
     lookup_no_such le = rw (in_bounds, le-ltb k (length cs) (omega (arith, count_facts.0)), lookup_among)
 
-    pub lookup_clause : k < c → partial_answer (with_tests n partial.Empty (map literal_test (get_or cs k []))) ≡ answer_of n (lookup_among cs k)
+    pub lookup_clause : k < z.clauses → partial_answer (with_tests n partial.Empty (map literal_test (get_or cs k []))) ≡ answer_of n (lookup_among cs k)
     unfolding lookup_among clause_lookup
     lookup_clause lt =
         answer_of_tests n (map literal_test (get_or cs k []))
         ∙ sym (rw (in_bounds, lt-ltb k (length cs) (omega (arith, count_facts.0)), lookup_among))
 
-    pub has_clause : {l : List ℕ} {r : ℕ} → Sound l r → r < rows_max → cs ≡ clauses false (tree_at l r) → k < c → HasClause l r k
+    pub has_clause : {l : List ℕ} {r : ℕ} → Sound l r → r < rows_max → cs ≡ clauses false (tree_at l r) → k < z.clauses → HasClause l r k
     has_clause sound low same lt =
         let long = ap length same in
         let all = ap total same in
@@ -101,31 +102,33 @@ module _ {rows : Reading} (k : ℕ) where
 -- ---- the answers of the entries
 
 module _ (n : ℕ) where
-  pub looked_up_on : (x : Lookup) {c many : ℕ} {v : Value} → answer_of n x ≡ answer.OnColumn c many v → looked_up.OnColumn c many ≡ looked_up_of x
+  pub looked_up_on : (x : Lookup) {v : ColumnValue} → answer_of n x ≡ Ok v → Ok (column_lookup v.column v.values) ≡ looked_up_of x
   unfolding answer_of looked_up_of
   looked_up_on (on_column c vs) e = cc
   looked_up_on (refuse why place) e = let z : ◌≡◌ {A = ℕ} 0 1 = cc in absurd (omega arith)
 
-  pub looked_up_refused : (x : Lookup) {why : Refusal} {place : ℕ} → answer_of n x ≡ answer.Refused why place → looked_up.Refused why place ≡ looked_up_of x
+  pub looked_up_refused : (x : Lookup) {e : Refused} → answer_of n x ≡ Err e → Err e ≡ looked_up_of x
   unfolding answer_of looked_up_of
-  looked_up_refused (on_column c vs) e = let z : ◌≡◌ {A = ℕ} 0 1 = cc in absurd (omega arith)
-  looked_up_refused (refuse why place) e = cc
+  looked_up_refused (on_column c vs) f = let z : ◌≡◌ {A = ℕ} 0 1 = cc in absurd (omega arith)
+  looked_up_refused (refuse why place) f = cc
 
-  pub found_at : (x : Lookup) {c many : ℕ} {v : Value} → answer_of n x ≡ answer.OnColumn c many v → n < many → found_value.Found v ≡ found_of x n
+  pub found_at : (x : Lookup) {v : ColumnValue} → answer_of n x ≡ Ok v → n < v.values → Ok v.value ≡ found_of x n
   unfolding answer_of found_of
-  found_at (on_column c vs) {many = many} {v = v} e lt =
-      let long : length vs ≡ many = cc in
-      let it : get_or vs n value.Null ≡ v = cc in
-      ap found_value.Found (sym it) ∙ sym (rw (lt-ltb n (length vs) (omega arith), found_of))
+  found_at (on_column c vs) {v} e lt =
+      let it : record { column = c; values = length vs; value = get_or vs n Null } ≡ v = cc in
+      let long : length vs ≡ v.values = ap (λ (w : ColumnValue). w.values) it in
+      ap Ok (sym (ap (λ (w : ColumnValue). w.value) it)) ∙ sym (rw (lt-ltb n (length vs) (omega arith), found_of))
   found_at (refuse why place) e lt = let z : ◌≡◌ {A = ℕ} 0 1 = cc in absurd (omega arith)
 
-  pub found_none : (x : Lookup) {c many : ℕ} {v : Value} → answer_of n x ≡ answer.OnColumn c many v →
-      many ≤ n → found_value.Refused refusal.NoSuch 0 ≡ found_of x n
+  pub found_none : (x : Lookup) {v : ColumnValue} → answer_of n x ≡ Ok v → v.values ≤ n → Err (refusal_at refusal.NoSuch 0) ≡ found_of x n
   unfolding answer_of found_of
-  found_none (on_column c vs) {many = many} {v = v} e le = let long : length vs ≡ many = cc in sym (rw (le-ltb n (length vs) (omega arith), found_of))
+  found_none (on_column c vs) {v} e le =
+      let it : record { column = c; values = length vs; value = get_or vs n Null } ≡ v = cc in
+      let long : length vs ≡ v.values = ap (λ (w : ColumnValue). w.values) it in
+      sym (rw (le-ltb n (length vs) (omega arith), found_of))
   found_none (refuse why place) e le = let z : ◌≡◌ {A = ℕ} 0 1 = cc in absurd (omega arith)
 
-  pub found_refused : (x : Lookup) {why : Refusal} {place : ℕ} → answer_of n x ≡ answer.Refused why place → found_value.Refused why place ≡ found_of x n
+  pub found_refused : (x : Lookup) {e : Refused} → answer_of n x ≡ Err e → Err e ≡ found_of x n
   unfolding answer_of found_of
-  found_refused (on_column c vs) e = let z : ◌≡◌ {A = ℕ} 0 1 = cc in absurd (omega arith)
-  found_refused (refuse why place) e = cc
+  found_refused (on_column c vs) f = let z : ◌≡◌ {A = ℕ} 0 1 = cc in absurd (omega arith)
+  found_refused (refuse why place) f = cc

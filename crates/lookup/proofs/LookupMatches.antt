@@ -1,5 +1,5 @@
 -- A lookup keeps exactly the right cells (`lookup_matches`): where a clause is a lookup on a column, it is TRUE exactly if the column's cell matches one of
--- its values. `literal_test_lem` says that the test which stands for a literal has the literal's value.
+-- its values. `literal_test_lem` says it of one literal: it is TRUE exactly if the cell matches the value that its test looks for.
 -- Assumes nothing.
 use mathlib.Core.Path.{◌≡◌, refl, sym, ap, ap₂, ◌∙◌}
 use Prim.Native.Nat.{ℕ}
@@ -9,20 +9,20 @@ use native.Mathlib.Omega.{arith}
 use borrow.Author.Tests.{eqb-true}
 use lib.Dec.{eqb, leb}
 use lib.Ieee.{Float, nan, inf, fin, eq, is_nan as is_nan_float}
+use Rattle.std.specs.Prelude.{Option, Some, None}
+use Rattle.std.specs.Option.{option_and_then}
 use Rattle.predicate.specs.Kind as kind
 use Rattle.predicate.specs.Tree.{Tree, leaf, unary, binary, both, either, negation}
 use Rattle.cnf.specs.Kleene as kleene
 use Rattle.cnf.specs.Clause.{Literal, literal}
 use Rattle.values.specs.Value.{constant_of_label, value_of, is_undefined}
 use Rattle.lookup.specs.Cell.{Cell, null, boolean, integer, float, string, cell_of, is_null, is_nan, same, truth, is_true, equal, is, matches}
-use Rattle.columns.specs.Lookup.{leaf_of, is_column, is_constant, equal_test, is_test, test_of}
-use Rattle.columns.specs.Lookup.{on, none, literal_test, tests_column, all_test_column, value_in, values_in, lookup_on, lookup_from, lookup_in, clause_lookup}
+use Rattle.columns.specs.Lookup.{leaf_of, is_column, is_constant, defined, comparison, equal_test, is_test, test_of, literal_test}
+use Rattle.columns.specs.Lookup.{on, none, tests_column, all_test_column, value_list, value_in, values_in, lookup_on, lookup_from, lookup_in, clause_lookup}
 use Rattle.lookup.proofs.EqualSymmetric.{equal_symmetric}
 use Rattle.lookup.specs.Meaning.{World, cell_in, predicate_value, literal_value, clause_value, any_match}
 use Rattle.rows.specs.Label.{Label}
-use Rattle.values.specs.declared.Constant.{Constant}
 use Rattle.columns.specs.declared.test.Test.{Test}
-use Rattle.columns.specs.declared.test.Test.TheVariants.{Other, Equals, Is}
 use Rattle.values.proofs.ConstantsReadBack.{both_true}
 use Rattle.values.specs.declared.Value.{Value}
 use Rattle.values.specs.declared.Value.TheVariants as value
@@ -70,13 +70,61 @@ true_or kleene.TRUE w = refl
 false_true : {A : Type 0} → false ≡ true → A
 false_true e = let z : ◌≡◌ {A = ℕ} 0 1 = cc in absurd (omega arith)
 
--- ---- tests
+-- ---- values
 
--- a test's value, where its column holds a cell
-unfoldable test_value : List ℕ → Cell → Test → kleene.Value
-test_value text cell Other = kleene.NULL
-test_value text cell (Equals c w) = equal cell (cell_of text (value_of w))
-test_value text cell (Is c y) = is y cell
+module _ (text : List ℕ) (cell : Cell) where
+  any_append : (vs ws : List Value) → any_match text cell (vs ++ ws) ≡ (any_match text cell vs || any_match text cell ws)
+  unfolding any_match
+  any_append [] ws = refl
+  any_append (v ∷ vs) ws =
+      ap (λ (b : Bool). matches cell (cell_of text v) || b) (any_append vs ws)
+      ∙ sym (or_assoc (matches cell (cell_of text v)) (any_match text cell vs) (any_match text cell ws))
+
+  -- a value that is defined is matched by what equals it
+  defined_matches : (v : Value) → is_undefined v ≡ false → matches cell (cell_of text v) ≡ is_true (equal cell (cell_of text v))
+  unfolding is_undefined matches cell_of is_null is_nan
+  defined_matches value.Null e = let z : ◌≡◌ {A = ℕ} 0 1 = cc in absurd (omega arith)
+  defined_matches (value.Boolean b) e = rw (and-false (is_null cell), and-false (is_nan cell))
+  defined_matches (value.Integer n) e = rw (and-false (is_null cell), and-false (is_nan cell))
+  defined_matches (value.Float x) e = rw (and-false (is_null cell), e, and-false (is_nan cell))
+  defined_matches (value.String s l) e = rw (and-false (is_null cell), and-false (is_nan cell))
+
+  -- and one that is not, by nothing that equals it
+  never : (v : Value) → is_undefined v ≡ true → is_true (equal cell (cell_of text v)) ≡ false
+  unfolding is_undefined cell_of
+  never value.Null e = null_never cell
+  never (value.Boolean b) e = let z : ◌≡◌ {A = ℕ} 0 1 = cc in absurd (omega arith)
+  never (value.Integer n) e = let z : ◌≡◌ {A = ℕ} 0 1 = cc in absurd (omega arith)
+  never (value.Float x) e = nan_never cell x e
+  never (value.String s l) e = let z : ◌≡◌ {A = ℕ} 0 1 = cc in absurd (omega arith)
+
+  -- what equals a value is what its comparison looks for
+  comparison_matches : (v : Value) → is_true (equal cell (cell_of text v)) ≡ any_match text cell (value_list (defined v))
+  unfolding defined any_match
+  comparison_matches v = by (is_undefined v) refl
+    where
+      by : (b : Bool) → is_undefined v ≡ b → is_true (equal cell (cell_of text v)) ≡ any_match text cell (value_list (elim b [ true ↦ None | false ↦ Some v ]))
+      by true e = never v e
+      by false e = sym (defined_matches v e) ∙ sym (or-false (matches cell (cell_of text v)))
+
+  null_matches : (matches cell (cell_of text value.Null) || false) ≡ is_null cell
+  unfolding matches cell_of is_null is_nan
+  null_matches = rw (and-true (is_null cell), and-false (is_nan cell), null_never cell, or-false (is_null cell), or-false (is_null cell))
+
+  nan_matches : (matches cell (cell_of text (value.Float nan)) || false) ≡ is_nan cell
+  unfolding matches cell_of is_null is_nan is_nan_float
+  nan_matches = rw (and-false (is_null cell), and-true (is_nan cell), nan_never cell nan refl, or-false (is_nan cell), or-false (is_nan cell))
+
+  is_matches : (y : ℕ) → is_true (is y cell) ≡ any_match text cell (elim (eqb y 0) [ true ↦ value.Null | false ↦ value.Float nan ] ∷ [])
+  unfolding is any_match
+  is_matches y = by (eqb y 0)
+    where
+      by : (b : Bool) → is_true (truth (elim b [ true ↦ is_null cell | false ↦ is_nan cell ]))
+          ≡ (matches cell (cell_of text (elim b [ true ↦ value.Null | false ↦ value.Float nan ])) || false)
+      by true = truth_is (is_null cell) ∙ sym null_matches
+      by false = truth_is (is_nan cell) ∙ sym nan_matches
+
+-- ---- tests
 
 -- a constant is no column
 constant_only : (w : Label) → is_constant w ≡ true → is_column w ≡ false
@@ -88,142 +136,101 @@ constant_only w e = by (eqb w.kind kind.column) refl
     by false f = refl
 
 module _ (text : List ℕ) (world : World) where
-  column_cell : (t : Tree) → is_column (leaf_of t) ≡ true → cell_in text world t ≡ world.column (leaf_of t).x
-  unfolding cell_in leaf_of is_column
-  column_cell (leaf r l) e = rw (e, cell_in)
-  column_cell (unary r l a) e = false_true e
-  column_cell (binary r l a b) e = false_true e
-  column_cell (both r l a b) e = false_true e
-  column_cell (either r l a b) e = false_true e
-  column_cell (negation r l a) e = false_true e
+  column_cell : (r : ℕ) (l : Label) → is_column l ≡ true → cell_in text world (leaf r l) ≡ world.column l.x
+  unfolding cell_in is_column
+  column_cell r l e = rw (e, cell_in)
 
-  constant_cell : (t : Tree) → is_constant (leaf_of t) ≡ true → cell_in text world t ≡ cell_of text (value_of (constant_of_label (leaf_of t)))
-  unfolding cell_in leaf_of is_constant is_column
-  constant_cell (leaf r l) e = rw (constant_only l e, cell_in)
-  constant_cell (unary r l a) e = false_true e
-  constant_cell (binary r l a b) e = false_true e
-  constant_cell (both r l a b) e = false_true e
-  constant_cell (either r l a b) e = false_true e
-  constant_cell (negation r l a) e = false_true e
+  constant_cell : (r : ℕ) (l : Label) → is_constant l ≡ true → cell_in text world (leaf r l) ≡ cell_of text (value_of (constant_of_label l))
+  unfolding cell_in is_column
+  constant_cell r l e = rw (constant_only l e, cell_in)
 
   module _ (c : ℕ) where
-    equal_value : (a b : Tree) → tests_column c (equal_test (leaf_of a) (leaf_of b)) ≡ true →
-        equal (cell_in text world a) (cell_in text world b) ≡ test_value text (world.column c) (equal_test (leaf_of a) (leaf_of b))
-    unfolding equal_test tests_column test_value
-    equal_value a b e = by (is_column (leaf_of a) && is_constant (leaf_of b)) (is_column (leaf_of b) && is_constant (leaf_of a)) refl refl e
+    -- a literal of this value is TRUE exactly if the cell matches what this test looks for
+    abbrev Finds : kleene.Value → Option Test → Type 0
+    Finds v t = tests_column c t ≡ true → is_true v ≡ any_match text (world.column c) (value_in t)
+
+    no_test : (v : kleene.Value) → Finds v None
+    unfolding tests_column
+    no_test v e = false_true e
+
+    -- one way round
+    column_first : (r q : ℕ) (l m : Label) → (is_column l && is_constant m) ≡ true →
+        Finds (equal (cell_in text world (leaf r l)) (cell_in text world (leaf q m))) (Some (comparison l m))
+    unfolding tests_column comparison value_in
+    column_first r q l m e f =
+        let parts = both_true (is_column l) (is_constant m) e in
+        ap is_true (ap₂ equal (column_cell r l parts.0 ∙ ap world.column (sym (eqb-true c l.x f))) (constant_cell q m parts.1))
+        ∙ comparison_matches text (world.column c) (value_of (constant_of_label m))
+
+    equal_leaves : (r q : ℕ) (l m : Label) → Finds (equal (cell_in text world (leaf r l)) (cell_in text world (leaf q m))) (equal_test l m)
+    unfolding equal_test
+    equal_leaves r q l m = by (is_column l && is_constant m) (is_column m && is_constant l) refl refl
       where
-        -- the test by which way round it is
-        case : Bool → Bool → Test
-        case p q =
-            elim p [
-              | true ↦ Equals (leaf_of a).x (constant_of_label (leaf_of b))
-              | false ↦ elim q [ true ↦ Equals (leaf_of b).x (constant_of_label (leaf_of a)) | false ↦ Other ]
-            ]
+        both_cells : kleene.Value
+        both_cells = equal (cell_in text world (leaf r l)) (cell_in text world (leaf q m))
 
-        by : (p q : Bool) → (is_column (leaf_of a) && is_constant (leaf_of b)) ≡ p → (is_column (leaf_of b) && is_constant (leaf_of a)) ≡ q →
-            tests_column c (case p q) ≡ true → equal (cell_in text world a) (cell_in text world b) ≡ test_value text (world.column c) (case p q)
-        by true q f g h =
-            let parts = both_true (is_column (leaf_of a)) (is_constant (leaf_of b)) f in
-            ap₂ equal (column_cell a parts.0 ∙ ap world.column (sym (eqb-true c (leaf_of a).x h))) (constant_cell b parts.1)
-        by false true f g h =
-            let parts = both_true (is_column (leaf_of b)) (is_constant (leaf_of a)) g in
-            equal_symmetric (cell_in text world a) (cell_in text world b)
-            ∙ ap₂ equal (column_cell b parts.0 ∙ ap world.column (sym (eqb-true c (leaf_of b).x h))) (constant_cell a parts.1)
-        by false false f g h = false_true h
+        by : (p s : Bool) → (is_column l && is_constant m) ≡ p → (is_column m && is_constant l) ≡ s →
+            Finds both_cells (elim p [ true ↦ Some (comparison l m) | false ↦ elim s [ true ↦ Some (comparison m l) | false ↦ None ] ])
+        by true s f g = column_first r q l m f
+        by false true f g = λ e.
+            ap is_true (equal_symmetric (cell_in text world (leaf r l)) (cell_in text world (leaf q m))) ∙ column_first q r m l g e
+        by false false f g = no_test both_cells
 
-    is_value : (a : Tree) (y : ℕ) → tests_column c (is_test (leaf_of a) y) ≡ true →
-        is y (cell_in text world a) ≡ test_value text (world.column c) (is_test (leaf_of a) y)
-    unfolding is_test tests_column test_value
-    is_value a y e = by (is_column (leaf_of a)) refl e
+    equal_value : (a b : Tree) → Finds (equal (cell_in text world a) (cell_in text world b)) (option_and_then (λ m. option_and_then (equal_test m) (leaf_of b)) (leaf_of a))
+    unfolding leaf_of
+    equal_value (leaf r l) (leaf q m) = equal_leaves r q l m
+    equal_value (leaf r l) (unary q m a) = no_test _
+    equal_value (leaf r l) (binary q m a b) = no_test _
+    equal_value (leaf r l) (both q m a b) = no_test _
+    equal_value (leaf r l) (either q m a b) = no_test _
+    equal_value (leaf r l) (negation q m a) = no_test _
+    equal_value (unary r l a) b = no_test _
+    equal_value (binary r l a d) b = no_test _
+    equal_value (both r l a d) b = no_test _
+    equal_value (either r l a d) b = no_test _
+    equal_value (negation r l a) b = no_test _
+
+    is_of_leaf : (r : ℕ) (l : Label) (y : ℕ) → Finds (is y (cell_in text world (leaf r l))) (is_test l y)
+    unfolding is_test tests_column value_in
+    is_of_leaf r l y = by (is_column l) refl
       where
-        by : (p : Bool) → is_column (leaf_of a) ≡ p → tests_column c (elim p [ true ↦ Is (leaf_of a).x y | false ↦ Other ]) ≡ true →
-            is y (cell_in text world a) ≡ test_value text (world.column c) (elim p [ true ↦ Is (leaf_of a).x y | false ↦ Other ])
-        by true f h = ap (is y) (column_cell a f ∙ ap world.column (sym (eqb-true c (leaf_of a).x h)))
-        by false f h = false_true h
+        by : (p : Bool) → is_column l ≡ p → Finds (is y (cell_in text world (leaf r l)))
+            (elim p [ true ↦ Some (record { column = l.x; value = Some (elim (eqb y 0) [ true ↦ value.Null | false ↦ value.Float nan ]) }) | false ↦ None ])
+        by true f e = ap (λ (x : Cell). is_true (is y x)) (column_cell r l f ∙ ap world.column (sym (eqb-true c l.x e))) ∙ is_matches text (world.column c) y
+        by false f e = false_true e
 
-    atom_test : (t : Tree) → tests_column c (test_of t) ≡ true → predicate_value text world t ≡ test_value text (world.column c) (test_of t)
-    unfolding test_of predicate_value tests_column
-    atom_test (leaf r l) e = false_true e
-    atom_test (unary r l a) e = by (eqb l.kind kind.is) e
+    is_value : (a : Tree) (y : ℕ) → Finds (is y (cell_in text world a)) (option_and_then (λ m. is_test m y) (leaf_of a))
+    unfolding leaf_of
+    is_value (leaf r l) y = is_of_leaf r l y
+    is_value (unary r l a) y = no_test _
+    is_value (binary r l a b) y = no_test _
+    is_value (both r l a b) y = no_test _
+    is_value (either r l a b) y = no_test _
+    is_value (negation r l a) y = no_test _
+
+    atom_test : (t : Tree) → Finds (predicate_value text world t) (test_of t)
+    unfolding test_of predicate_value
+    atom_test (leaf r l) = no_test _
+    atom_test (unary r l a) = by (eqb l.kind kind.is)
       where
-        by : (p : Bool) → tests_column c (elim p [ true ↦ is_test (leaf_of a) l.y | false ↦ Other ]) ≡ true →
-            elim p [ true ↦ is l.y (cell_in text world a) | false ↦ world.other r ]
-            ≡ test_value text (world.column c) (elim p [ true ↦ is_test (leaf_of a) l.y | false ↦ Other ])
-        by true h = is_value a l.y h
-        by false h = false_true h
-    atom_test (binary r l a b) e = by (eqb l.kind kind.equal) e
+        by : (p : Bool) → Finds (elim p [ true ↦ is l.y (cell_in text world a) | false ↦ world.other r ])
+            (elim p [ true ↦ option_and_then (λ m. is_test m l.y) (leaf_of a) | false ↦ None ])
+        by true = is_value a l.y
+        by false = no_test _
+    atom_test (binary r l a b) = by (eqb l.kind kind.equal)
       where
-        by : (p : Bool) → tests_column c (elim p [ true ↦ equal_test (leaf_of a) (leaf_of b) | false ↦ Other ]) ≡ true →
-            elim p [ true ↦ equal (cell_in text world a) (cell_in text world b) | false ↦ world.other r ]
-            ≡ test_value text (world.column c) (elim p [ true ↦ equal_test (leaf_of a) (leaf_of b) | false ↦ Other ])
-        by true h = equal_value a b h
-        by false h = false_true h
-    atom_test (both r l a b) e = false_true e
-    atom_test (either r l a b) e = false_true e
-    atom_test (negation r l a) e = false_true e
+        by : (p : Bool) → Finds (elim p [ true ↦ equal (cell_in text world a) (cell_in text world b) | false ↦ world.other r ])
+            (elim p [ true ↦ option_and_then (λ m. option_and_then (equal_test m) (leaf_of b)) (leaf_of a) | false ↦ None ])
+        by true = equal_value a b
+        by false = no_test _
+    atom_test (both r l a b) = no_test _
+    atom_test (either r l a b) = no_test _
+    atom_test (negation r l a) = no_test _
 
-    literal_test_lem : (l : Literal) → tests_column c (literal_test l) ≡ true → literal_value text world l ≡ test_value text (world.column c) (literal_test l)
-    unfolding literal_test literal_value tests_column
-    literal_test_lem (literal false a) e = atom_test a e
-    literal_test_lem (literal true a) e = false_true e
-
-module _ (text : List ℕ) (cell : Cell) where
-  any_append : (vs ws : List Value) → any_match text cell (vs ++ ws) ≡ (any_match text cell vs || any_match text cell ws)
-  unfolding any_match
-  any_append [] ws = refl
-  any_append (v ∷ vs) ws =
-      ap (λ (b : Bool). matches cell (cell_of text v) || b) (any_append vs ws)
-      ∙ sym (or_assoc (matches cell (cell_of text v)) (any_match text cell vs) (any_match text cell ws))
-
-  -- a value that is defined is matched by what equals it
-  defined : (v : Value) → is_undefined v ≡ false → matches cell (cell_of text v) ≡ is_true (equal cell (cell_of text v))
-  unfolding is_undefined matches cell_of is_null is_nan
-  defined value.Null e = let z : ◌≡◌ {A = ℕ} 0 1 = cc in absurd (omega arith)
-  defined (value.Boolean b) e = rw (and-false (is_null cell), and-false (is_nan cell))
-  defined (value.Integer n) e = rw (and-false (is_null cell), and-false (is_nan cell))
-  defined (value.Float x) e = rw (and-false (is_null cell), e, and-false (is_nan cell))
-  defined (value.String s l) e = rw (and-false (is_null cell), and-false (is_nan cell))
-
-  -- and one that is not, by nothing that equals it
-  never : (v : Value) → is_undefined v ≡ true → is_true (equal cell (cell_of text v)) ≡ false
-  unfolding is_undefined cell_of
-  never value.Null e = null_never cell
-  never (value.Boolean b) e = let z : ◌≡◌ {A = ℕ} 0 1 = cc in absurd (omega arith)
-  never (value.Integer n) e = let z : ◌≡◌ {A = ℕ} 0 1 = cc in absurd (omega arith)
-  never (value.Float x) e = nan_never cell x e
-  never (value.String s l) e = let z : ◌≡◌ {A = ℕ} 0 1 = cc in absurd (omega arith)
-
-  equals_test : (c : ℕ) (w : Constant) → is_true (test_value text cell (Equals c w)) ≡ any_match text cell (value_in (Equals c w))
-  unfolding test_value value_in any_match
-  equals_test c w = by (is_undefined (value_of w)) refl
-    where
-      by : (b : Bool) → is_undefined (value_of w) ≡ b →
-          is_true (equal cell (cell_of text (value_of w))) ≡ any_match text cell (elim b [ true ↦ [] | false ↦ value_of w ∷ [] ])
-      by true e = never (value_of w) e
-      by false e = sym (defined (value_of w) e) ∙ sym (or-false (matches cell (cell_of text (value_of w))))
-
-  null_matches : (matches cell (cell_of text value.Null) || false) ≡ is_null cell
-  unfolding matches cell_of is_null is_nan
-  null_matches = rw (and-true (is_null cell), and-false (is_nan cell), null_never cell, or-false (is_null cell), or-false (is_null cell))
-
-  nan_matches : (matches cell (cell_of text (value.Float nan)) || false) ≡ is_nan cell
-  unfolding matches cell_of is_null is_nan is_nan_float
-  nan_matches = rw (and-false (is_null cell), and-true (is_nan cell), nan_never cell nan refl, or-false (is_nan cell), or-false (is_nan cell))
-
-  is_test_lem : (c y : ℕ) → is_true (test_value text cell (Is c y)) ≡ any_match text cell (value_in (Is c y))
-  unfolding test_value value_in any_match is
-  is_test_lem c y = by (eqb y 0)
-    where
-      by : (b : Bool) → is_true (truth (elim b [ true ↦ is_null cell | false ↦ is_nan cell ]))
-          ≡ any_match text cell (elim b [ true ↦ value.Null ∷ [] | false ↦ value.Float nan ∷ [] ])
-      by true = truth_is (is_null cell) ∙ sym null_matches
-      by false = truth_is (is_nan cell) ∙ sym nan_matches
-
-  test_matches : (c : ℕ) (t : Test) → tests_column c t ≡ true → is_true (test_value text cell t) ≡ any_match text cell (value_in t)
-  unfolding tests_column
-  test_matches c Other e = let z : ◌≡◌ {A = ℕ} 0 1 = cc in absurd (omega arith)
-  test_matches c (Equals d w) e = equals_test d w
-  test_matches c (Is d y) e = is_test_lem d y
+    literal_test_lem : (l : Literal) → Finds (literal_value text world l) (literal_test l)
+    unfolding literal_test literal_value
+    literal_test_lem (literal false a) = atom_test a
+    literal_test_lem (literal true a) = no_test _
 
 -- ---- clauses
 
@@ -237,7 +244,7 @@ module _ (text : List ℕ) (world : World) where
       let this = (both_true (tests_column c (literal_test l)) (all_test_column c (map literal_test ls)) e).0 in
       true_or (literal_value text world l) (clause_value text world ls)
       ∙ ap₂ ◌||◌
-      (ap is_true (literal_test_lem text world c l this) ∙ test_matches text (world.column c) c (literal_test l) this)
+      (literal_test_lem text world c l this)
       (all_match c ls (both_true (tests_column c (literal_test l)) (all_test_column c (map literal_test ls)) e).1)
       ∙ sym (any_append text (world.column c) (value_in (literal_test l)) (values_in (map literal_test ls)))
 
@@ -254,12 +261,11 @@ module _ (text : List ℕ) (world : World) where
           all_match d ls f ∙ ap₂ (λ (i : ℕ) (ws : List Value). any_match text (world.column i) ws) here same
       by false f g = let z : ◌≡◌ {A = ℕ} 0 1 = cc in absurd (omega arith)
 
-  lookup_from_matches : (c : ℕ) (t : Test) (ls : List Literal) (vs : List Value) → lookup_from t (map literal_test ls) ≡ on c vs →
+  lookup_from_matches : (c : ℕ) (t : Option Test) (ls : List Literal) (vs : List Value) → lookup_from t (map literal_test ls) ≡ on c vs →
       is_true (clause_value text world ls) ≡ any_match text (world.column c) vs
   unfolding lookup_from
-  lookup_from_matches c Other ls vs e = let z : ◌≡◌ {A = ℕ} 0 1 = cc in absurd (omega arith)
-  lookup_from_matches c (Equals d w) ls vs e = lookup_on_matches c d ls vs e
-  lookup_from_matches c (Is d y) ls vs e = lookup_on_matches c d ls vs e
+  lookup_from_matches c None ls vs e = let z : ◌≡◌ {A = ℕ} 0 1 = cc in absurd (omega arith)
+  lookup_from_matches c (Some t) ls vs e = lookup_on_matches c t.column ls vs e
 
   -- the theorem
   pub lookup_matches : (c : ℕ) (ls : List Literal) (vs : List Value) → clause_lookup ls ≡ on c vs →

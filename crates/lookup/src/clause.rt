@@ -2,57 +2,66 @@
 ghost use Rattle.std.specs.Prelude.{◌≡◌};
 ghost use Rattle.lookup.specs.ByNumber.{CanFind, clause_of_two, with_clause};
 
-use crate::counts::clause_count_at;
-use cnf::{Source, past_nots};
+use crate::counts::ClauseCounts;
+use cnf::{SignedRow, Source, past_nots};
 use columns::partial::{PartialLookup, with_literal};
 
-// A row, and the number of a clause of it.
+// A clause of a row, by its number.
 #[derive(Clone, Copy)]
 pub struct RowClause {
-    pub row: usize,
+    pub at: SignedRow,
     pub clause: usize,
 }
 
 // Finds a clause of two rows' lists, one after the other, of which the first has so many.
-fn clause_of_two(left: usize, right: usize, many: usize, clause: usize) -> RowClause
+#[tactic(auto, unfolding(crate::specs::ByNumber::clause_of_two))]
+fn clause_of_two(left: SignedRow, right: SignedRow, many: usize, clause: usize) -> RowClause
     ensures { result ≡ clause_of_two left right many clause }
 {
     if clause < many {
-        RowClause { row: left, clause }
+        RowClause { at: left, clause }
     } else {
-        let past = clause - many;
         RowClause {
-            row: right,
-            clause: past,
+            at: right,
+            clause: clause - many,
         }
     }
 }
 
-// Adds the literals of a clause of a row. A clause of lists that are joined crosswise is a left one and a right one, else it is one of either list.
+// Adds the literals of a clause. A clause of lists that are joined crosswise is a left one and a right one, else it is one of either list.
 pub fn with_clause(
     rows: &[u64],
-    table: &[u16],
-    row: usize,
-    negated: bool,
-    clause: usize,
+    table: &[ClauseCounts],
+    from: RowClause,
     wanted: usize,
     partial: PartialLookup,
 ) -> PartialLookup
-    requires { CanFind rows.now table.now row negated clause partial }
-    ensures { result ≡ with_clause rows.now row negated clause wanted partial }
+    requires { CanFind rows.now table.now from partial }
+    ensures { result ≡ with_clause rows.now from wanted partial }
 {
-    let source = past_nots(rows, row, negated);
-    match source {
-        Source::Atom(atom, negated) => with_literal(rows, atom, negated, wanted, partial),
-        Source::Joined(left, right, negated, crosswise) => {
+    match past_nots(rows, from.at) {
+        Source::Atom(atom) => with_literal(rows, atom, wanted, partial),
+        Source::Joined {
+            left,
+            right,
+            crosswise,
+        } => {
             if crosswise {
-                let each = clause_count_at(table, right, negated);
-                let first = with_clause(rows, table, left, negated, clause / each, wanted, partial);
-                with_clause(rows, table, right, negated, clause % each, wanted, first)
+                let each = table[right.row].when(right.negated);
+                let of_left = RowClause {
+                    at: left,
+                    clause: from.clause / each,
+                };
+                let of_right = RowClause {
+                    at: right,
+                    clause: from.clause % each,
+                };
+                let first = with_clause(rows, table, of_left, wanted, partial);
+                with_clause(rows, table, of_right, wanted, first)
             } else {
-                let many = clause_count_at(table, left, negated);
-                let side = clause_of_two(left, right, many, clause);
-                with_clause(rows, table, side.row, negated, side.clause, wanted, partial)
+                let many = table[left.row].when(left.negated);
+                let side = clause_of_two(left, right, many, from.clause);
+                with_clause(rows, table, side, wanted, partial)
             }
         }
     }

@@ -2,4 +2,4 @@
 use Rattle.lookup.proofs.clause.+with_clause.Given as goal
 
 abbrev pub decreases-with_clause : goal.decreases-with_clause
-decreases-with_clause l = l.row
+decreases-with_clause l = l.from.at.row

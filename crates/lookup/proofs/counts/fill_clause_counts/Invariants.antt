@@ -1,10 +1,7 @@
 -- The invariant of `counts::fill_clause_counts`: the table has the counts of the rows that were passed.
-use Rattle.std.proofs.Common.{◌≡◌, ◌+◌, ◌-◌, ◌≤◌, length}
+use Rattle.std.proofs.Common.{◌≡◌, length}
 use Rattle.lookup.specs.ByNumber.{CountsBelow}
 use Rattle.lookup.proofs.counts.fill_clause_counts.Given as goal
 
 abbrev pub invariant-loop-row : goal.invariant-loop-row
-invariant-loop-row l = CountsBelow l.rows l.table l.row × (l.row ≤ l.root + 1) × (length l.table ≡ length l.initial.table)
-
-abbrev pub decreases-loop-row : goal.decreases-loop-row
-decreases-loop-row l = l.root + 1 - l.row
+invariant-loop-row l = CountsBelow l.rows l.table l.row × (length l.table ≡ length l.initial.table)
