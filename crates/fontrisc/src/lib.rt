@@ -8,10 +8,7 @@ ghost use Rattle.std.specs.Prelude.{◌≡◌};
 ghost use Rattle.tokens.specs.Token.{span_at};
 ghost use Rattle.fontrisc.specs.Face.{ParsesTo, SplitsTo, LooksUpTo, FindsValueTo};
 
-use lookup::{FoundValue, LookedUp};
-use parser::Parsed;
-use splitter::Listed;
-use values::constant_of;
+use values::Constant;
 
 // Hands out where the bytes of token n lie in the text.
 #[unsafe(no_mangle)]
@@ -35,15 +32,14 @@ pub extern "C" fn fontrisc_spelled(
 pub extern "C" fn fontrisc_parse(text: &[u8], tokens: &[u32], rows: &mut [u64], at: &mut u64) -> u32
     ensures { ParsesTo text.now tokens.now rows.old rows.new result at.new }
 {
-    let parsed = parser::parse(text, tokens, rows);
-    match parsed {
-        Parsed::Rows(n) => {
+    match parser::parse(text, tokens, rows) {
+        Ok(n) => {
             *at = n as u64;
             0
         }
-        Parsed::Refused(why, place) => {
-            *at = place as u64;
-            refusals::number_of(why)
+        Err(refused) => {
+            *at = refused.place as u64;
+            u32::from(refused.why)
         }
     }
 }
@@ -61,17 +57,16 @@ pub extern "C" fn fontrisc_split(
     ensures { SplitsTo text.now rows.now literals.old ends.old
         literals.new ends.new result clauses.new total.new }
 {
-    let listed = splitter::split(text, rows, literals, ends);
-    match listed {
-        Listed::Clauses(c, m) => {
-            *clauses = c as u64;
-            *total = m as u64;
+    match splitter::split(text, rows, literals, ends) {
+        Ok(listed) => {
+            *clauses = listed.clauses as u64;
+            *total = listed.literals as u64;
             0
         }
-        Listed::Refused(why, place) => {
-            *clauses = place as u64;
+        Err(refused) => {
+            *clauses = refused.place as u64;
             *total = 0;
-            refusals::number_of(why)
+            u32::from(refused.why)
         }
     }
 }
@@ -87,17 +82,16 @@ pub extern "C" fn fontrisc_lookup(
 ) -> u32
     ensures { LooksUpTo text.now rows.now clause result column.new count.new }
 {
-    let looked = lookup::lookup(text, rows, clause);
-    match looked {
-        LookedUp::OnColumn(c, n) => {
-            *column = c as u64;
-            *count = n as u64;
+    match lookup::lookup(text, rows, clause) {
+        Ok(found) => {
+            *column = found.column as u64;
+            *count = found.values as u64;
             0
         }
-        LookedUp::Refused(why, place) => {
-            *column = place as u64;
+        Err(refused) => {
+            *column = refused.place as u64;
             *count = 0;
-            refusals::number_of(why)
+            u32::from(refused.why)
         }
     }
 }
@@ -115,20 +109,19 @@ pub extern "C" fn fontrisc_value(
 ) -> u32
     ensures { FindsValueTo text.now rows.now clause n result kind.new x.new y.new }
 {
-    let found = lookup::value_at(text, rows, clause, n);
-    match found {
-        FoundValue::Found(value) => {
-            let constant = constant_of(value);
+    match lookup::value_at(text, rows, clause, n) {
+        Ok(value) => {
+            let constant = Constant::from(value);
             *kind = constant.kind;
             *x = constant.x;
             *y = constant.y;
             0
         }
-        FoundValue::Refused(why, place) => {
-            *kind = place as u64;
+        Err(refused) => {
+            *kind = refused.place as u64;
             *x = 0;
             *y = 0;
-            refusals::number_of(why)
+            u32::from(refused.why)
         }
     }
 }

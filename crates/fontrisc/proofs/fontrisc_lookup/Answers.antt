@@ -4,14 +4,11 @@ use Rattle.std.proofs.Common.{sym, ap}
 use Rattle.lookup.specs.Answer.{looked_up_numbers}
 use Rattle.fontrisc.proofs.fontrisc_lookup.Goals as goal
 
-pub returns-in-OnColumn : goal.returns-in-OnColumn
+pub returns-in-Ok : goal.returns-in-Ok
 unfolding looked_up_numbers
-returns-in-OnColumn c =
-    let looked = c.lookup-looked in
-    record { answer = looked.result; looks = looked.ensures; numbers = sym (ap looked_up_numbers c.in-OnColumn.is) }
+returns-in-Ok c = record { answer = c.lookup.result; looks = c.lookup.ensures; numbers = sym (ap looked_up_numbers c.in-Ok.is) }
 
-pub returns-in-Refused : goal.returns-in-Refused
+pub returns-in-Err : goal.returns-in-Err
 unfolding looked_up_numbers
-returns-in-Refused c =
-    let looked = c.lookup-looked in
-    record { answer = looked.result; looks = looked.ensures; numbers = rw c.number_of.ensures (sym (ap looked_up_numbers c.in-Refused.is)) }
+returns-in-Err c =
+    record { answer = c.lookup.result; looks = c.lookup.ensures; numbers = rw c.from.ensures (sym (ap looked_up_numbers c.in-Err.is)) }

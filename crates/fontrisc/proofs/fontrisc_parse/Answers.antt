@@ -4,14 +4,11 @@ use Rattle.std.proofs.Common.{sym, ap}
 use Rattle.parser.specs.Promise.{parse_numbers}
 use Rattle.fontrisc.proofs.fontrisc_parse.Goals as goal
 
-pub returns-in-Rows : goal.returns-in-Rows
+pub returns-in-Ok : goal.returns-in-Ok
 unfolding parse_numbers
-returns-in-Rows c =
-    let parsed = c.parse-parsed in
-    record { answer = parsed.result; parses = parsed.ensures; numbers = sym (ap parse_numbers c.in-Rows.is) }
+returns-in-Ok c = record { answer = c.parse.result; parses = c.parse.ensures; numbers = sym (ap parse_numbers c.in-Ok.is) }
 
-pub returns-in-Refused : goal.returns-in-Refused
+pub returns-in-Err : goal.returns-in-Err
 unfolding parse_numbers
-returns-in-Refused c =
-    let parsed = c.parse-parsed in
-    record { answer = parsed.result; parses = parsed.ensures; numbers = rw c.number_of.ensures (sym (ap parse_numbers c.in-Refused.is)) }
+returns-in-Err c =
+    record { answer = c.parse.result; parses = c.parse.ensures; numbers = rw c.from.ensures (sym (ap parse_numbers c.in-Err.is)) }

@@ -4,14 +4,11 @@ use Rattle.std.proofs.Common.{sym, ap}
 use Rattle.splitter.specs.Split.{split_numbers}
 use Rattle.fontrisc.proofs.fontrisc_split.Goals as goal
 
-pub returns-in-Clauses : goal.returns-in-Clauses
+pub returns-in-Ok : goal.returns-in-Ok
 unfolding split_numbers
-returns-in-Clauses c =
-    let listed = c.split-listed in
-    record { answer = listed.result; splits = listed.ensures; numbers = sym (ap split_numbers c.in-Clauses.is) }
+returns-in-Ok c = record { answer = c.split.result; splits = c.split.ensures; numbers = sym (ap split_numbers c.in-Ok.is) }
 
-pub returns-in-Refused : goal.returns-in-Refused
+pub returns-in-Err : goal.returns-in-Err
 unfolding split_numbers
-returns-in-Refused c =
-    let listed = c.split-listed in
-    record { answer = listed.result; splits = listed.ensures; numbers = rw c.number_of.ensures (sym (ap split_numbers c.in-Refused.is)) }
+returns-in-Err c =
+    record { answer = c.split.result; splits = c.split.ensures; numbers = rw c.from.ensures (sym (ap split_numbers c.in-Err.is)) }

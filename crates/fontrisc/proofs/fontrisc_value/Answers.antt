@@ -6,15 +6,13 @@ use Rattle.values.specs.declared.Constant.{Constant}
 use Rattle.lookup.specs.Answer.{found_numbers}
 use Rattle.fontrisc.proofs.fontrisc_value.Goals as goal
 
-pub returns-in-Found : goal.returns-in-Found
+pub returns-in-Ok : goal.returns-in-Ok
 unfolding found_numbers
-returns-in-Found c =
-    let found = c.value_at-found in
-    let constant = ap (λ (k : Constant). 0 ∷ constant_numbers k) c.constant_of-constant.ensures in
-    record { answer = found.result; finds = found.ensures; numbers = constant ∙ sym (ap found_numbers c.in-Found.is) }
+returns-in-Ok c =
+    let constant = ap (λ (k : Constant). 0 ∷ constant_numbers k) c.from-constant.ensures in
+    record { answer = c.value_at.result; finds = c.value_at.ensures; numbers = constant ∙ sym (ap found_numbers c.in-Ok.is) }
 
-pub returns-in-Refused : goal.returns-in-Refused
+pub returns-in-Err : goal.returns-in-Err
 unfolding found_numbers
-returns-in-Refused c =
-    let found = c.value_at-found in
-    record { answer = found.result; finds = found.ensures; numbers = rw c.number_of.ensures (sym (ap found_numbers c.in-Refused.is)) }
+returns-in-Err c =
+    record { answer = c.value_at.result; finds = c.value_at.ensures; numbers = rw c.from.ensures (sym (ap found_numbers c.in-Err.is)) }
