@@ -20,7 +20,8 @@ use Rattle.grammar.specs.declared.Start.{Start}
 use Rattle.grammar.specs.Memory.{done, refuse, then, past, push_row, push_leaf, Rec}
 use Rattle.grammar.specs.Memory.{column, argument, arguments, named, atom, operand, level, expression}
 use Rattle.grammar.specs.declared.Cursor.{Cursor}
-use Rattle.grammar.proofs.Loops.{one_less}
+use Rattle.grammar.proofs.Answers.{goes_on}
+use Rattle.grammar.proofs.Loops.{one_less, while_on, while_off}
 
 -- the cases of `push_row`
 module _ (r : Row) (c : Cursor) (t : List ℕ) where
@@ -73,3 +74,10 @@ module _ (text ts : List ℕ) (levels m : ℕ) (c : Cursor) (t : List ℕ) where
   pub expression_level : (levels ≡ 0 → ⊥) → expression text ts levels m c t ≡ level text ts (expression text ts (levels - 1)) m c t
   unfolding expression
   expression_level some = sym (ap (λ (n : ℕ). expression text ts n m c t) (one_less levels (omega arith)))
+
+-- for the functions' `using`: how a loop goes on and ends, how the arguments do, and how an expression does
+pub ruleset loop_cases = (goes_on, while_on, while_off)
+
+pub ruleset arguments_cases = (goes_on, arguments_end, arguments_on)
+
+pub ruleset expression_cases = (goes_on, expression_none, expression_level, while_off)

@@ -18,11 +18,12 @@ pub enum Start {
     Other,
 }
 
-// The next token, and how many rows are written. The last of them is the root of what was read last.
+// The next token, and how many rows are written. The last of them is the root of what was read last. In a step's answer `at` lies where a refusal
+// has its place, and not its name: so it stays out of memory.
 #[derive(Clone, Copy)]
 pub struct Cursor {
-    pub at: usize,
     pub rows: usize,
+    pub at: usize,
 }
 
 impl Cursor {

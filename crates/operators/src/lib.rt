@@ -10,7 +10,8 @@ use syntax::kind as row;
 use tokens::kind;
 
 // Answers the precedence of an infix operator, and 0 for any other kind: a number and no Option, since a request for a quicker look-up leaves the
-// promise and the callers word for word. The compiler makes shorter code of these tests than of a `match`.
+// promise and the callers word for word. The compiler makes shorter code of these tests than of a `match`, and here and in `infix_row` of one kind
+// a test than of kinds joined: a filter took a twentieth longer.
 #[tactic(auto, unfolding(crate::specs::Operator::infix_of, crate::specs::Operator::among))]
 pub fn infix_precedence(k: u32) -> u32
     ensures { result ≡ (infix_of k).precedence }
@@ -75,7 +76,8 @@ pub fn infix_row(k: u32) -> u64
         kind::OR => row::OR,
         kind::AND => row::AND,
         kind::EQUAL => row::EQUAL,
-        kind::NOT_EQUAL | kind::LESS_OR_GREATER_THAN => row::NOT_EQUAL,
+        kind::NOT_EQUAL => row::NOT_EQUAL,
+        kind::LESS_OR_GREATER_THAN => row::NOT_EQUAL,
         kind::LIKE => row::LIKE,
         kind::GREATER_THAN => row::GREATER_THAN,
         kind::GREATER_THAN_OR_EQUAL => row::GREATER_THAN_OR_EQUAL,
@@ -97,7 +99,8 @@ pub fn prefix_precedence(k: u32) -> u32
     ensures { result ≡ (prefix_of k).precedence }
 {
     match k {
-        kind::PLUS | kind::MINUS => 10,
+        kind::PLUS => 10,
+        kind::MINUS => 10,
         kind::NOT => 3,
         _ => 0,
     }

@@ -45,4 +45,7 @@ parsed_rows_are_one_tree levels text ts t n u p = by (parsing text ts (capacity 
         let many : n ≡ size x = cc in
         let table : u ≡ rows_of 0 x ++ drop (size x * width) t = s.table in
         record { tree = x; rows = rw (many, table) (rows_read_back x (drop (size x * width) t) h.told) }
-    by (refuse why q) h s = let same : ◌≡◌ {A = Result ℕ Refused} (Ok n) (Err (refused why q)) = s.answer in let z : ◌≡◌ {A = ℕ} 0 1 = cc in absurd (omega arith)
+    by (refuse why q) h s =
+        let same : ◌≡◌ {A = Result ℕ Refused} (Ok n) (Err (refused why q)) = s.answer in
+        let z : ◌≡◌ {A = ℕ} 0 1 = cc in
+        absurd (omega arith)

@@ -33,7 +33,7 @@ use tokens::table::kind_at;
 
 // Reads an expression at the minimum `min`, with so many levels left: the steps of docs/FORMAT.md §4.4.
 #[cycle(reading)]
-#[tactic(auto, using(grammar::proofs::Answers::goes_on, grammar::proofs::RuleCases::expression_none, grammar::proofs::RuleCases::expression_level, grammar::proofs::Loops::while_off), unfolding(grammar::specs::Memory::level, grammar::specs::Memory::postfixes))]
+#[tactic(auto, using(grammar::proofs::RuleCases::expression_cases), unfolding(grammar::specs::Memory::level, grammar::specs::Memory::postfixes))]
 pub fn expression(
     text: &[u8],
     tokens: &[u32],
@@ -150,7 +150,7 @@ fn named(
 // Reads the arguments of the function that token `name` names, up to the closing parenthesis, and writes the function's row.
 // The loop goes by the cursor; `n` only counts its turns, so there is no range or slice for a `for`.
 #[cycle(reading)]
-#[tactic(auto, using(grammar::proofs::Answers::goes_on, grammar::proofs::RuleCases::arguments_end, grammar::proofs::RuleCases::arguments_on))]
+#[tactic(auto, using(grammar::proofs::RuleCases::arguments_cases))]
 fn arguments(
     text: &[u8],
     tokens: &[u32],
@@ -202,7 +202,7 @@ fn argument(
 
 // Reads the infix operators of at least `min` with their right sides, while there are any.
 #[cycle(reading)]
-#[tactic(auto, using(grammar::proofs::Answers::goes_on, grammar::proofs::Loops::while_on, grammar::proofs::Loops::while_off), unfolding(grammar::specs::Memory::infixes))]
+#[tactic(auto, using(grammar::proofs::RuleCases::loop_cases), unfolding(grammar::specs::Memory::infixes))]
 fn infixes(
     text: &[u8],
     tokens: &[u32],

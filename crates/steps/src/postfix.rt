@@ -49,7 +49,7 @@ pub fn postfix_at(tokens: &[u32], at: usize, min: u32) -> bool
 }
 
 // Reads the postfix operators of at least `min`, while there are any.
-#[tactic(auto, using(grammar::proofs::Answers::goes_on, grammar::proofs::Loops::while_on, grammar::proofs::Loops::while_off), unfolding(grammar::specs::Memory::postfixes))]
+#[tactic(auto, using(grammar::proofs::RuleCases::loop_cases), unfolding(grammar::specs::Memory::postfixes))]
 pub fn postfixes(
     tokens: &[u32],
     rows: &mut [u64],
