@@ -59,8 +59,8 @@ chain_unchanged u v n h c s p = unchanged_to u v n h h c s p
 -- ---- `prepend`
 
 -- one more: a cell for the chain whose head stands at place i, which becomes w, the number of that cell
-pub prepended_more : {x : ℕ} {u v d e : List ℕ} {first i n m w : ℕ} → Prepended x u v d e first (i - first) n m → first ≤ i → i < length e → 2 * m + 1 < length v
-    → w ≡ m
+pub prepended_more : {x : ℕ} {u v d e : List ℕ} {first i n m w : ℕ} → Prepended x u v d e first (i - first) n m
+    → first ≤ i → i < length e → 2 * m + 1 < length v → w ≡ m
     → Prepended x u (set (set v (2 * m) x) (2 * m + 1) (get_or e i 0)) d (set e i w) first (i + 1 - first) n (m + 1)
 prepended_more {x} {u} {v} {d} {e} {first} {i} {n} {m} {w} p low within cell is = record {
   used = omega (arith, p.used);

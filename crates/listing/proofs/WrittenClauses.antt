@@ -9,7 +9,7 @@ use native.Mathlib.Omega.{arith}
 use native.Mathlib.Nat.{zero-add, add_assoc, add-zero}
 use native.Mathlib.Numerals.{add-one}
 use lib.ListN.{length, get_or, set, take, drop, length-append, length-map, length-drop, length-set}
-use lib.Seq.{sets, length-sets, take-suc, take-length, length-take-le, sets-eq, get_or-set_same, get_or-set_other, get_or-drop, get_or-append-add, ext_get_or}
+use lib.Seq.{sets, length-sets, take-suc, take-length, length-take-le, sets-eq, get_or-set_same, get_or-set_other, get_or-drop, get_or-append-add, get_or-append_right, ext_get_or}
 use Rattle.rows.proofs.Laws.{sets_append}
 use Rattle.limits.specs.Limits.{literals_max}
 use Rattle.cnf.specs.Clause.{Literal, literal_number, total, literal_numbers, ends_from}
@@ -23,23 +23,20 @@ use Rattle.listing.proofs.Chains.{chain_step, chain_none}
 
 literal_numbers_append : (xs ys : List (List Literal)) → literal_numbers (xs ++ ys) ≡ literal_numbers xs ++ literal_numbers ys
 literal_numbers_append [] ys = refl
-literal_numbers_append (c ∷ xs) ys =
-    ap (λ (l : List ℕ). map literal_number c ++ l) (literal_numbers_append xs ys)
-    ∙ sym (append_assoc (map literal_number c) (literal_numbers xs) (literal_numbers ys))
+literal_numbers_append (c ∷ xs) ys = simp (literal_numbers_append xs ys, append_assoc)
 
 pub length_literal_numbers : (xs : List (List Literal)) → length (literal_numbers xs) ≡ total xs
 length_literal_numbers [] = refl
-length_literal_numbers (c ∷ xs) = length-append (map literal_number c) (literal_numbers xs) ∙ ap₂ ◌+◌ (length-map c literal_number) (length_literal_numbers xs)
+length_literal_numbers (c ∷ xs) = simp (length-append, length-map, length_literal_numbers xs)
 
 pub length_ends : (at : ℕ) (xs : List (List Literal)) → length (ends_from at xs) ≡ length xs
 length_ends at [] = refl
 length_ends at (c ∷ xs) = ap suc (length_ends (at + length c) xs)
 
 ends_append : (at : ℕ) (xs ys : List (List Literal)) → ends_from at (xs ++ ys) ≡ ends_from at xs ++ ends_from (at + total xs) ys
-ends_append at [] ys = ap (λ (n : ℕ). ends_from n ys) (sym (add-zero at))
+ends_append at [] ys = simp add-zero
 ends_append at (c ∷ xs) ys =
-    ap (λ (l : List ℕ). (at + length c) ∷ l)
-    (ends_append (at + length c) xs ys ∙ ap (λ (n : ℕ). ends_from (at + length c) xs ++ ends_from n ys) (add_assoc at (length c) (total xs)))
+    simp (ends_append (at + length c) xs ys, add_assoc)
 
 total_take : (cs : List (List Literal)) (k : ℕ) → k < length cs → total (take k cs) + length (get_or cs k []) ≤ total cs
 total_take [] k h = absurd (omega arith)
@@ -53,11 +50,10 @@ sets_front l vs h = sets-eq vs l 0 (omega arith) ∙ ap (λ (n : ℕ). vs ++ dro
 -- and so is the next
 next_unchanged : (l vs : List ℕ) (k : ℕ) → length vs ≡ k → k ≤ length l → get_or (sets l 0 vs) k 0 ≡ get_or l k 0
 next_unchanged l vs k e h =
-    ap (λ (m : List ℕ). get_or m k 0) (sets_front l vs (omega arith))
-    ∙ ap (λ (i : ℕ). get_or (vs ++ drop (length vs) l) i 0) (sym (add-zero k ∙ refl) ∙ ap (λ (i : ℕ). i + 0) (sym e))
-    ∙ get_or-append-add vs (drop (length vs) l) 0 0
-    ∙ get_or-drop (length vs) l 0 0
-    ∙ ap (λ (i : ℕ). get_or l i 0) (add-zero (length vs) ∙ e)
+    let z = sets_front l vs (omega arith) in
+    let y = get_or-append_right vs (drop (length vs) l) k 0 (omega arith) in
+    let x = get_or-drop (length vs) l (k - length vs) 0 in
+    grind arith
 
 -- ---- `write_chain`
 
@@ -180,12 +176,6 @@ module _ (cs : List (List Literal)) {u a d : List ℕ} (last : ℕ) (e : last + 
       ends = omega (arith, s.ends, long_heads);
       low = omega (arith, s.cells, s.long);
     }
-
--- a table of cells that is long enough
-pub room_of : (cs : List (List Literal)) (u : List ℕ) {a d : List ℕ} (n : ℕ) → length u ≡ n → 2 * (1 + total cs) ≤ n → n ≤ places_max
-    → total cs ≤ length a → length cs ≤ length d
-    → RoomToWrite u a d cs
-room_of cs u n e h k la ld = record { cells = omega arith; long = omega arith; literals = la; ends = ld }
 
 -- ---- `write_clauses`: one clause a turn
 

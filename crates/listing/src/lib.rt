@@ -13,15 +13,15 @@ ghost use Rattle.listing.specs.Listing.{RoomToPrepend, frontier, ClausesPrepende
 
 use cnf::{SignedRow, Source, past_nots};
 
-// Where heads stand: the place of the first, and how many there are.
+// Where heads stand: the place of the first, and how many there are. No `Range`: it is not Copy, and each clause would subtract to say how many.
 #[derive(Clone, Copy)]
 pub struct Run {
     pub first: usize,
     pub each: usize,
 }
 
-// Answers the number of a literal, which is its atom's row, read plainly or negated: twice the row, plus 1 if negated. No `From`: that could not ask that the row
-// is below the most rows.
+// Answers the number of a literal, which is its atom's row, read plainly or negated: twice the row, plus 1 if negated. No `From`: that could not ask that
+// the row is below the most rows.
 pub fn literal_number(atom: SignedRow) -> u16
     requires { atom.row < rows_max }
     ensures { result ≡ 2 * atom.row + bit atom.negated }
@@ -29,7 +29,7 @@ pub fn literal_number(atom: SignedRow) -> u16
     (2 * atom.row + usize::from(atom.negated)) as u16
 }
 
-// Puts a cell with the literal x before each of the chains whose heads these are.
+// Puts a cell with the literal x before each of the chains whose heads these are. By place: of elements that `iter_mut` lent a proof knows nothing after it.
 fn prepend(cells: &mut [u16], heads: &mut [u32], run: Run, x: u16)
     requires { CellsMade cells.old (free_of cells.old)
         × HeadsAt heads.old (free_of cells.old) run.first run.each
@@ -48,10 +48,19 @@ fn prepend(cells: &mut [u16], heads: &mut [u32], run: Run, x: u16)
     cells[0] = m as u16;
 }
 
-// Copies `each` heads from place `from` on to place `to` on. Never inlined: the frames of `prepend_clauses` are as many as the nesting is deep, and
-// have no room for its loops.
-#[inline(never)]
+// Copies `each` heads from place `from` on to place `to` on. Where there are none, no call is made: so it is at each row whose lists are joined crosswise.
 fn copy_heads(heads: &mut [u32], from: usize, to: usize, each: usize)
+    requires { (from + each ≤ length heads.old) × (to + each ≤ length heads.old) }
+    ensures { Copied heads.old heads.new from to each }
+{
+    if each > 0 {
+        copy_some(heads, from, to, each);
+    }
+}
+
+// Copies them. Never inlined: the frames of `prepend_clauses` are as many as the nesting is deep, and have no room for a loop.
+#[inline(never)]
+fn copy_some(heads: &mut [u32], from: usize, to: usize, each: usize)
     requires { (from + each ≤ length heads.old) × (to + each ≤ length heads.old) }
     ensures { Copied heads.old heads.new from to each }
 {
@@ -106,7 +115,7 @@ fn prepend_clauses(
     }
 }
 
-// Writes the literals of a chain from place `start` on, and answers the place after them.
+// Writes the literals of a chain from place `start` on, and answers the place after them. It follows the chain, so no counted loop would do.
 fn write_chain(cells: &[u16], literals: &mut [u32], start: usize, head: usize) -> usize
     requires { Followable cells.now head × (start + length (chain_of cells.now head) ≤ length literals.old) }
     ensures { Wrote literals.old literals.new start result (chain_of cells.now head) }
@@ -121,7 +130,8 @@ fn write_chain(cells: &[u16], literals: &mut [u32], start: usize, head: usize) -
     at
 }
 
-// Writes the n clauses of row r. The list of ends holds the heads of their chains first, and then the ends.
+// Writes the n clauses of row r. The list of ends holds the heads of their chains first, and then the ends: by place, as in `prepend`. The list and how much
+// of it is written stay two parameters: callers lend longer lists, and `Written` says that the rest is as it was.
 pub fn write_clauses(
     rows: &[u64],
     cells: &mut [u16],

@@ -83,7 +83,7 @@ fn write_counted(rows: &[u64], literals: &mut [u32], ends: &mut [u32], r: usize,
     }
 }
 
-// Counts the clauses of row r, and lists them where there is room.
+// Counts the clauses of row r, and lists them where there is room. The two lists stay two parameters: in a struct each clause would say `s.entry.ends.now`.
 #[tactic(auto, unfolding(crate::specs::Split::list_of, cnf::specs::Size::size_of, cnf::specs::Size::within_limits), using(cnf::proofs::Sizes::size_is))]
 fn list_many(
     rows: &[u64],
@@ -127,7 +127,8 @@ fn list_one(literals: &mut [u32], ends: &mut [u32], atom: SignedRow) -> Result<L
     })
 }
 
-// Lists the clauses of the tree at row r. Most often, and in a run of NOTs, that is one literal: it needs no counting.
+// Lists the clauses of the tree at row r. Most often, and in a run of NOTs, that is one literal: it needs no counting. Rows and r stay two parameters, and
+// what holds of them a `requires`: in a struct each clause would say `s.entry.rows.now`.
 pub fn list_tree(
     rows: &[u64],
     literals: &mut [u32],
@@ -138,13 +139,11 @@ pub fn list_tree(
     ensures { Gives (list_of (clauses false (tree_at rows.now r)) literals.old ends.old)
         result literals.new ends.new }
 {
-    match past_nots(
-        rows,
-        SignedRow {
-            row: r,
-            negated: false,
-        },
-    ) {
+    let root = SignedRow {
+        row: r,
+        negated: false,
+    };
+    match past_nots(rows, root) {
         Source::Atom(atom) => list_one(literals, ends, atom),
         Source::Joined { .. } => list_many(rows, literals, ends, r),
     }

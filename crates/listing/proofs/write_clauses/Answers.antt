@@ -4,7 +4,8 @@ use mathlib.Core.Bool.{false}
 use Rattle.predicate.specs.Tree.{tree_at}
 use Rattle.cnf.specs.Source.{clauses_at, signed}
 use Rattle.cnf.proofs.Sizes.{clauses_some}
-use Rattle.listing.proofs.WrittenClauses.{none_written, room_to_prepend, chains_ready, rest_unchanged, turn_followable, turn_room, turn_low, turn_goes, all_written}
+use Rattle.listing.proofs.WrittenClauses.{none_written, room_to_prepend, chains_ready, rest_unchanged}
+use Rattle.listing.proofs.WrittenClauses.{turn_followable, turn_room, turn_low, turn_goes, all_written}
 use Rattle.listing.proofs.write_clauses.Goals as goal
 
 pub overflow_sub-last : goal.overflow_sub-last
