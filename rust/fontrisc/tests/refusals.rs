@@ -4,8 +4,11 @@
 
 use fontrisc::Refusal;
 
-/// The source with the table of `show`.
+/// The source with the names that `show` prints.
 const NAMES: &str = include_str!("../../../crates/drawing/src/names.rt");
+
+/// The source with the numbers.
+const NUMBERS: &str = include_str!("../../../crates/refusals/src/lib.rt");
 
 /// The header.
 const HEADER: &str = include_str!("../../../include/fontrisc.h");
@@ -22,27 +25,45 @@ fn ours() -> Vec<Entry> {
 /// What is counted, by the word for it.
 fn counted(word: &str) -> Option<&'static str> {
     match word {
-        "token" => Some("token"),
-        "row" => Some("row"),
-        "-" => None,
+        "token" | "Some(\"token\")" => Some("token"),
+        "row" | "Some(\"row\")" => Some("row"),
+        "-" | "None" => None,
         _ => panic!("a place counts no `{word}`"),
     }
 }
 
-/// The entries of the table of `show`: a byte string with `|` between them, each a
-/// number, a name, what its place counts, and a sentence.
+/// The arms of the `match` that follows `head` in a source: the variants of
+/// `Refusal` that an arm takes, `_` for all others, and what it answers.
+fn arms<'a>(source: &'a str, head: &str) -> Vec<(&'a str, &'a str)> {
+    let from = source.find(head).unwrap_or_else(|| panic!("there is no `{head}`"));
+    let body = &source[from..];
+    let body = &body[..body.find("\n}\n").expect("its end")];
+    let arms = body.lines().filter_map(|line| line.trim().trim_end_matches(',').split_once(" => "));
+    let of_each = arms.flat_map(|(variants, answer)| {
+        variants.split(" | ").map(move |name| (name.trim_start_matches("Refusal::"), answer))
+    });
+    of_each.collect()
+}
+
+/// What the arm for a variant answers.
+fn answer<'a>(arms: &[(&'a str, &'a str)], variant: &str) -> &'a str {
+    let is = |name: &str| arms.iter().find(|arm| arm.0 == name);
+    is(variant).or_else(|| is("_")).unwrap_or_else(|| panic!("no arm takes `{variant}`")).1
+}
+
+/// The entries of `show`, by the three functions that have them: a number, a name,
+/// and what its place counts. The four needs are one refusal to callers.
 fn of_show() -> Vec<Entry> {
-    let from = NAMES.find("b\"01 ").expect("the table begins with refusal 1") + 2;
-    let table = &NAMES[from..];
-    let table = &table[..table.find('"').expect("its end")];
-    let entry = |text: &str| {
-        let mut words = text.split([' ', '\n', '\\']).filter(|word| !word.is_empty());
-        let mut next = || words.next().unwrap_or_else(|| panic!("`{text}` is cut short"));
-        let (number, name, counts) = (next(), next(), next());
-        next();
-        (number.parse().expect("a number"), name.to_string(), counted(counts))
+    let numbers = arms(NUMBERS, "fn from(why: Refusal) -> u32");
+    let names = arms(NAMES, "fn name_of(");
+    let places = arms(NAMES, "fn counted_by(");
+    let entry = |&(variant, number): &(&str, &str)| {
+        let name = answer(&names, variant).trim_matches('"').to_string();
+        (number.parse().expect("a number"), name, counted(answer(&places, variant)))
     };
-    table.split('|').map(entry).collect()
+    let mut entries: Vec<Entry> = numbers.iter().map(entry).collect();
+    entries.dedup();
+    entries
 }
 
 /// The entries of the header: the comment after a number ends with the place.
