@@ -14,7 +14,7 @@ use Rattle.predicate.specs.Row.{shape_at, arity_of, operands_of}
 use Rattle.predicate.specs.Tree.{node_of, tree_at, Sound}
 use Rattle.predicate.specs.declared.Shape.{Shape}
 use Rattle.predicate.specs.declared.Shape.TheVariants as shape
-use Rattle.predicate.proofs.Shapes.{node_at}
+use Rattle.predicate.proofs.Shapes.{node_at, sound_operand, sound_left, sound_right}
 use Rattle.columns.specs.Lookup.{leaf_of, equal_test, is_test, test_of}
 
 module _ {l : List ℕ} {r : ℕ} (h : Sound l r) {s : Shape} (e : s ≡ shape_at l r) where
@@ -68,3 +68,7 @@ module _ {l : List ℕ} {r : ℕ} (h : Sound l r) {s : Shape} (e : s ≡ shape_a
       by (shape.Both x y) f g = refl
       by (shape.Either x y) f g = refl
       by (shape.Not x) f g = refl
+
+pub ruleset leaves = (leaf_on, leaf_off)
+
+pub ruleset by_shape = (test_unary, test_binary, test_other, sound_operand, sound_left, sound_right)

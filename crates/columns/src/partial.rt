@@ -18,7 +18,7 @@ pub struct ColumnValue {
     pub value: Value,
 }
 
-// What the literals so far make: there are none yet; they are no lookup; or they are one on a column. None and not yet differ, so no Option would do.
+// What the literals so far make: there are none yet; they are no lookup; or they are one on a column. These are three cases, where an Option has two.
 #[derive(Clone, Copy)]
 pub enum PartialLookup {
     Empty,
@@ -37,13 +37,13 @@ impl ColumnValue {
             return self;
         };
         ColumnValue {
-            column: self.column,
             values: self.values + 1,
             value: if self.values == wanted {
                 value
             } else {
                 self.value
             },
+            ..self
         }
     }
 }
@@ -81,19 +81,15 @@ fn literal_test(rows: &[u64], atom: SignedRow) -> Option<Test>
     }
 }
 
-// Adds one literal, by its atom's row.
+// Adds one literal, by its atom's row. It stays a call of its own, so that a caller that calls itself has small frames.
+#[inline(never)]
 #[tactic(auto, unfolding(crate::specs::Partial::with_test))]
-pub fn with_literal(
-    rows: &[u64],
-    atom: SignedRow,
-    wanted: usize,
-    partial: PartialLookup,
-) -> PartialLookup
-    requires { Sound rows.now atom.row × (value_count partial ≤ literals_max) }
-    ensures { result ≡ with_test wanted partial (literal_test (literal atom.negated (tree_at rows.now atom.row))) }
+pub fn with_literal(rows: &[u64], atom: SignedRow, wanted: usize, partial: &mut PartialLookup)
+    requires { Sound rows.now atom.row × (value_count partial.old ≤ literals_max) }
+    ensures { partial.new ≡ with_test wanted partial.old (literal_test (literal atom.negated (tree_at rows.now atom.row))) }
 {
-    match literal_test(rows, atom) {
+    *partial = match literal_test(rows, atom) {
         Some(test) => partial.with_test(wanted, test),
         None => PartialLookup::NotLookup,
-    }
+    };
 }

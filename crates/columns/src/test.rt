@@ -30,8 +30,8 @@ fn is_constant(leaf: Row) -> bool
     kind::NULL <= leaf.kind && leaf.kind <= kind::STRING
 }
 
-// Answers the row of a column or a constant, which has no operands.
-#[tactic(auto, using(crate::proofs::TestsByShape::leaf_on, crate::proofs::TestsByShape::leaf_off))]
+// Answers the row of a column or a constant, which has no operands. `Sound` stays a `requires` here and in `partial`, as in crate `predicate`.
+#[tactic(auto, using(crate::proofs::TestsByShape::leaves))]
 fn leaf_at(rows: &[u64], row: usize) -> Option<Row>
     requires { Sound rows.now row }
     ensures { option_map leaf_label result ≡ leaf_of (tree_at rows.now row) }
@@ -100,7 +100,7 @@ fn is_test(operand: Row, what: u64) -> Option<Test>
 }
 
 // Answers what the atom at a row tests.
-#[tactic(auto, using(crate::proofs::TestsByShape::test_unary, crate::proofs::TestsByShape::test_binary, crate::proofs::TestsByShape::test_other, predicate::proofs::Shapes::sound_operand, predicate::proofs::Shapes::sound_left, predicate::proofs::Shapes::sound_right))]
+#[tactic(auto, using(crate::proofs::TestsByShape::by_shape))]
 pub fn test_at(rows: &[u64], atom: usize) -> Option<Test>
     requires { Sound rows.now atom }
     ensures { result ≡ test_of (tree_at rows.now atom) }

@@ -14,9 +14,10 @@ use Rattle.refusals.specs.Refusal.{refused as refusal_at}
 use Rattle.refusals.specs.declared.Refusal.{Refusal}
 use Rattle.refusals.specs.declared.Refusal.TheVariants as refusal
 use Rattle.refusals.specs.declared.Refused.{Refused}
-use Rattle.predicate.specs.Tree.{Tree, tree_at, Sound}
+use Rattle.predicate.specs.Tree.{Tree, Sound}
 use Rattle.predicate.specs.Read.{Reading, one, refused}
 use Rattle.cnf.specs.Clause.{Literal, clauses, total}
+use Rattle.cnf.specs.Source.{clauses_at}
 use Rattle.cnf.specs.Size.{size_of}
 use Rattle.cnf.specs.declared.Size.{Size}
 use Rattle.cnf.proofs.Sizes.{size_is, size_many}
@@ -28,13 +29,14 @@ use Rattle.columns.specs.declared.partial.ColumnValue.{ColumnValue}
 use Rattle.columns.specs.declared.partial.PartialLookup.TheVariants as partial
 use Rattle.columns.proofs.PartialLookups.{partial_of, partial_of_clause}
 use Rattle.lookup.specs.Answer.{Lookup, on_column, refuse, lookup_or_refusal, lookup_among, lookup_of, column_lookup, looked_up_of, found_of}
-use Rattle.lookup.specs.ByNumber.{root_clause, CountsBelow, HasClause, CanFind, answer_of, partial_answer}
+use Rattle.lookup.specs.ByNumber.{CountsBelow, HasClause, CanFind, answer_of, partial_answer}
 use Rattle.lookup.specs.declared.counts.ClauseCounts.{ClauseCounts}
+use Rattle.lookup.specs.declared.clause.RowClause.{RowClause}
 
 -- ---- from the clause to its answer
 
-pub can_find_first : {l : List ℕ} {tab : List ClauseCounts} {r k : ℕ} → HasClause l r k → r < length tab → CountsBelow l tab (r + 1) →
-    CanFind l tab (root_clause r k) partial.Empty
+pub can_find_first : {l : List ℕ} {tab : List ClauseCounts} {c : RowClause} → HasClause l c → c.at.row < length tab → CountsBelow l tab (c.at.row + 1) →
+    CanFind l tab c partial.Empty
 unfolding value_count
 can_find_first h room counts =
     record { sound = h.sound; room = room; counts = counts; few = h.few; inside = h.inside; small = omega (arith, h.small) }
@@ -54,7 +56,8 @@ module _ (cs : List (List Literal)) (k n : ℕ) {s : Option Size} (is : s ≡ si
   unfolding lookup_among answer_of
   lookup_too_many e = by (ltb clauses_max (length cs)) (ltb literals_max (total cs)) refl refl
     where
-      by : (p q : Bool) → ltb clauses_max (length cs) ≡ p → ltb literals_max (total cs) ≡ q → Err (refusal_at refusal.TooMany 0) ≡ answer_of n (lookup_among cs k)
+      by : (p q : Bool) → ltb clauses_max (length cs) ≡ p → ltb literals_max (total cs) ≡ q →
+          Err (refusal_at refusal.TooMany 0) ≡ answer_of n (lookup_among cs k)
       by true q f g = rw (f, lookup_among)
       by false true f g = rw (f, g, lookup_among)
       by false false f g = absurd (size_many cs (sym is ∙ e) (ltb-false clauses_max (length cs) f) (ltb-false literals_max (total cs) g))
@@ -76,7 +79,7 @@ module _ (cs : List (List Literal)) (k n : ℕ) {s : Option Size} (is : s ≡ si
         answer_of_tests n (map literal_test (get_or cs k []))
         ∙ sym (rw (in_bounds, lt-ltb k (length cs) (omega (arith, count_facts.0)), lookup_among))
 
-    pub has_clause : {l : List ℕ} {r : ℕ} → Sound l r → r < rows_max → cs ≡ clauses false (tree_at l r) → k < z.clauses → HasClause l r k
+    pub has_clause : {l : List ℕ} {c : RowClause} → Sound l c.at.row → c.at.row < rows_max → cs ≡ clauses_at l c.at → c.clause < z.clauses → HasClause l c
     has_clause sound low same lt =
         let long = ap length same in
         let all = ap total same in

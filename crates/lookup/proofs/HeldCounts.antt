@@ -17,6 +17,7 @@ use Rattle.predicate.specs.Row.{shape_at, arity_of, operands_of}
 use Rattle.predicate.specs.Tree.{Tree, node_of, tree_at, Sound}
 use Rattle.predicate.specs.declared.Shape.{Shape}
 use Rattle.predicate.specs.declared.Shape.TheVariants as shape
+use Rattle.predicate.proofs.Trees.{sound_below}
 use Rattle.predicate.proofs.Shapes.{node_at, falls_both, falls_either, falls_not}
 use Rattle.cnf.specs.Clause.{clauses}
 use Rattle.cnf.specs.Source.{signed}
@@ -108,6 +109,8 @@ module _ {l : List ℕ} {t : List ClauseCounts} {r : ℕ} (h : Sound l r) (done 
         (cross_count x y false ∙ count false _ (length_join true (clauses false (tree_at l x)) (clauses false (tree_at l y))))
         (append_count x y true ∙ count true _ (length_join false (clauses true (tree_at l x)) (clauses true (tree_at l y))))
 
+pub ruleset by_shape = (falls_both, falls_either, falls_not, counts_of_atom, counts_of_both, counts_of_either, counts_of_not)
+
 -- ---- the table as it is filled
 
 pub counts_below_none : (l : List ℕ) (t : List ClauseCounts) → CountsBelow l t 0
@@ -127,3 +130,5 @@ counts_below_more {l} {t} {r} {c} done room e = record { each = λ q lt. by q (l
     by q false k lt =
         let same : r ≡ q = omega (arith, leb-false (q + 1) r k) in
         subst (λ (i : ℕ). get_or (set t r c) i (counts 0 0) ≡ clause_counts l i) same (get_or-set_same t r c (counts 0 0) room ∙ e)
+
+pub ruleset filling = (counts_below_none, counts_below_more, sound_below)

@@ -176,7 +176,8 @@ module _ (text : List ℕ) (world : World) where
             ap is_true (equal_symmetric (cell_in text world (leaf r l)) (cell_in text world (leaf q m))) ∙ column_first q r m l g e
         by false false f g = no_test both_cells
 
-    equal_value : (a b : Tree) → Finds (equal (cell_in text world a) (cell_in text world b)) (option_and_then (λ m. option_and_then (equal_test m) (leaf_of b)) (leaf_of a))
+    equal_value : (a b : Tree) → Finds (equal (cell_in text world a) (cell_in text world b))
+        (option_and_then (λ m. option_and_then (equal_test m) (leaf_of b)) (leaf_of a))
     unfolding leaf_of
     equal_value (leaf r l) (leaf q m) = equal_leaves r q l m
     equal_value (leaf r l) (unary q m a) = no_test _

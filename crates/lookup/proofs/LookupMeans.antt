@@ -22,10 +22,12 @@ use Rattle.values.specs.declared.Value.TheVariants as value
 use Rattle.columns.specs.Lookup.{ClauseLookup, on, none, clause_lookup}
 use Rattle.lookup.specs.Cell.{is_true}
 use Rattle.lookup.specs.Meaning.{World, clause_value, any_match}
-use Rattle.lookup.specs.Answer.{Lookup, on_column, refuse, lookup_or_refusal, lookup_among, lookup_of, column_lookup, looked_up_of, found_of, handed, handed_out}
+use Rattle.lookup.specs.Answer.{Lookup, on_column, refuse, lookup_or_refusal, lookup_among, lookup_of}
+use Rattle.lookup.specs.Answer.{column_lookup, looked_up_of, found_of, handed, handed_out}
 use Rattle.lookup.specs.Answer.{looked_up_numbers, found_numbers, lookup_numbers, value_numbers, LooksUp, FindsValue}
 use Rattle.lookup.specs.declared.ColumnLookup.{ColumnLookup}
 use Rattle.lookup.proofs.LookupMatches.{lookup_matches}
+use Rattle.lookup.proofs.AnswerOfClause.{looked_up_on, looked_up_refused, found_at, found_none, found_refused}
 
 -- ---- the numbers of an answer
 
@@ -103,3 +105,9 @@ looks_up text rows k {v} e =
           clause_means text world c n (clauses false t) k (ap looked_up_of (sym here) ∙ sym e ∙ on)
           ∙ ap (λ (a : Lookup). any_match text (world.column c) (handed_out a n)) (sym here);
     }
+
+-- ---- what the entries cite
+
+pub ruleset looking_up = (looks_up, looked_up_on, looked_up_refused)
+
+pub ruleset finding = (finds_value, found_at, found_none, found_refused)

@@ -5,8 +5,8 @@ use Rattle.limits.specs.Limits.{rows_max, clauses_max, literals_max, clauses_hel
 use Rattle.refusals.specs.Refusal.{refused}
 use Rattle.refusals.specs.declared.Refusal.TheVariants as refusal
 use Rattle.refusals.specs.declared.Refused.{Refused}
-use Rattle.predicate.specs.Tree.{tree_at, Sound}
-use Rattle.cnf.specs.Clause.{clauses, total}
+use Rattle.predicate.specs.Tree.{Sound}
+use Rattle.cnf.specs.Clause.{total}
 use Rattle.cnf.specs.Source.{clauses_at, signed}
 use Rattle.cnf.specs.declared.SignedRow.{SignedRow}
 use Rattle.values.specs.declared.Value.TheVariants.{Null}
@@ -54,17 +54,13 @@ pub record CountsBelow (l : List ℕ) (t : List ClauseCounts) (n : ℕ) : Type 0
 abbrev pub row_clause : SignedRow → ℕ → RowClause
 row_clause r k = record { at = r; clause = k }
 
--- clause k of the tree at row `root`
-abbrev pub root_clause : ℕ → ℕ → RowClause
-root_clause root k = row_clause (signed false root) k
-
 -- there is such a clause, and no more clauses or literals than there may be
-pub record HasClause (l : List ℕ) (root k : ℕ) : Type 0 where
-  pub sound : Sound l root
-  pub low : root < rows_max
-  pub few : length (clauses false (tree_at l root)) ≤ clauses_max
-  pub small : total (clauses false (tree_at l root)) ≤ literals_max
-  pub inside : k < length (clauses false (tree_at l root))
+pub record HasClause (l : List ℕ) (c : RowClause) : Type 0 where
+  pub sound : Sound l c.at.row
+  pub low : c.at.row < rows_max
+  pub few : length (clauses_at l c.at) ≤ clauses_max
+  pub small : total (clauses_at l c.at) ≤ literals_max
+  pub inside : c.clause < length (clauses_at l c.at)
 
 -- a row's clause can be found, and its literals can be added to p
 pub record CanFind (l : List ℕ) (t : List ClauseCounts) (c : RowClause) (p : PartialLookup) : Type 0 where

@@ -34,10 +34,10 @@ pub fn with_clause(
     table: &[ClauseCounts],
     from: RowClause,
     wanted: usize,
-    partial: PartialLookup,
-) -> PartialLookup
-    requires { CanFind rows.now table.now from partial }
-    ensures { result ≡ with_clause rows.now from wanted partial }
+    partial: &mut PartialLookup,
+)
+    requires { CanFind rows.now table.now from partial.old }
+    ensures { partial.new ≡ with_clause rows.now from wanted partial.old }
 {
     match past_nots(rows, from.at) {
         Source::Atom(atom) => with_literal(rows, atom, wanted, partial),
@@ -56,12 +56,12 @@ pub fn with_clause(
                     at: right,
                     clause: from.clause % each,
                 };
-                let first = with_clause(rows, table, of_left, wanted, partial);
-                with_clause(rows, table, of_right, wanted, first)
+                with_clause(rows, table, of_left, wanted, partial);
+                with_clause(rows, table, of_right, wanted, partial);
             } else {
                 let many = table[left.row].when(left.negated);
                 let side = clause_of_two(left, right, many, from.clause);
-                with_clause(rows, table, side, wanted, partial)
+                with_clause(rows, table, side, wanted, partial);
             }
         }
     }

@@ -61,8 +61,8 @@ impl ClauseCounts {
     }
 }
 
-// Counts the clauses of a row, from those of its operands. OR is AND with the readings swapped.
-#[tactic(auto, using(predicate::proofs::Shapes::falls_both, predicate::proofs::Shapes::falls_either, predicate::proofs::Shapes::falls_not))]
+// Counts the clauses of a row, from those of its operands. OR is AND with the readings swapped. `Sound` stays a `requires`, as in crate `predicate`.
+#[tactic(auto, using(crate::proofs::HeldCounts::by_shape))]
 fn clause_counts_of(rows: &[u64], table: &[ClauseCounts], row: usize) -> ClauseCounts
     requires { Sound rows.now row × (row ≤ length table.now) × CountsBelow rows.now table.now row }
     ensures { result ≡ clause_counts rows.now row }
@@ -76,7 +76,7 @@ fn clause_counts_of(rows: &[u64], table: &[ClauseCounts], row: usize) -> ClauseC
 }
 
 // Fills the table with the counts of every row up to the root.
-#[tactic(auto, using(crate::proofs::HeldCounts::counts_below_none, crate::proofs::HeldCounts::counts_below_more, predicate::proofs::Trees::sound_below))]
+#[tactic(auto, using(crate::proofs::HeldCounts::filling))]
 pub fn fill_clause_counts(rows: &[u64], table: &mut [ClauseCounts], root: usize)
     requires { Sound rows.now root × (root < length table.old) }
     ensures { CountsBelow rows.now table.new (root + 1) × (length table.new ≡ length table.old) }

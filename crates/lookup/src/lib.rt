@@ -16,13 +16,13 @@ use values::Value;
 mod clause;
 mod counts;
 
-ghost use Rattle.std.specs.Prelude.{◌≡◌, false, ◌<◌, ◌≤◌};
+ghost use Rattle.std.specs.Prelude.{◌≡◌, ◌<◌, ◌≤◌};
 ghost use Rattle.limits.specs.Limits.{rows_max};
-ghost use Rattle.predicate.specs.Tree.{tree_at, Sound};
+ghost use Rattle.predicate.specs.Tree.{Sound};
 ghost use Rattle.predicate.specs.Read.{read_rows};
-ghost use Rattle.cnf.specs.Clause.{clauses as clauses_of};
+ghost use Rattle.cnf.specs.Source.{clauses_at};
 ghost use Rattle.lookup.specs.Answer.{lookup_of, lookup_among, LooksUp, FindsValue};
-ghost use Rattle.lookup.specs.ByNumber.{HasClause, root_clause, with_clause, answer_of, partial_answer};
+ghost use Rattle.lookup.specs.ByNumber.{HasClause, with_clause, answer_of, partial_answer};
 
 // The lookup that a clause is: on which column, and how many values it has.
 #[derive(Clone, Copy)]
@@ -42,37 +42,28 @@ const NO_COUNTS: ClauseCounts = ClauseCounts {
 // Answers the lookup that a clause makes, by way of a table of counts of N rows.
 fn clause_lookup_within<const N: usize>(
     rows: &[u64],
-    root: usize,
-    clause: usize,
+    from: RowClause,
     wanted: usize,
 ) -> PartialLookup
-    requires { HasClause rows.now root clause × (root < N) × (N ≤ rows_max) }
-    ensures { result ≡ with_clause rows.now (root_clause root clause) wanted PartialLookup.Empty }
+    requires { HasClause rows.now from × (from.at.row < N) × (N ≤ rows_max) }
+    ensures { result ≡ with_clause rows.now from wanted PartialLookup.Empty }
 {
     let mut table = [NO_COUNTS; N];
-    fill_clause_counts(rows, &mut table, root);
-    let at = SignedRow {
-        row: root,
-        negated: false,
-    };
-    with_clause(
-        rows,
-        &table,
-        RowClause { at, clause },
-        wanted,
-        PartialLookup::Empty,
-    )
+    fill_clause_counts(rows, &mut table, from.at.row);
+    let mut partial = PartialLookup::Empty;
+    with_clause(rows, &table, from, wanted, &mut partial);
+    partial
 }
 
 // Answers the same, by a table that is large enough for the rows.
-fn clause_lookup(rows: &[u64], root: usize, clause: usize, wanted: usize) -> PartialLookup
-    requires { HasClause rows.now root clause }
-    ensures { result ≡ with_clause rows.now (root_clause root clause) wanted PartialLookup.Empty }
+fn clause_lookup(rows: &[u64], from: RowClause, wanted: usize) -> PartialLookup
+    requires { HasClause rows.now from }
+    ensures { result ≡ with_clause rows.now from wanted PartialLookup.Empty }
 {
-    if root < FEW_ROWS {
-        clause_lookup_within::<FEW_ROWS>(rows, root, clause, wanted)
+    if from.at.row < FEW_ROWS {
+        clause_lookup_within::<FEW_ROWS>(rows, from, wanted)
     } else {
-        clause_lookup_within::<ROWS_MAX>(rows, root, clause, wanted)
+        clause_lookup_within::<ROWS_MAX>(rows, from, wanted)
     }
 }
 
@@ -87,30 +78,23 @@ fn partial_answer(partial: PartialLookup) -> Result<ColumnValue, Refused>
     }
 }
 
-// Answers of a clause of the tree at row `root`.
-fn lookup_at(
-    rows: &[u64],
-    root: usize,
-    clause: usize,
-    wanted: usize,
-) -> Result<ColumnValue, Refused>
-    requires { Sound rows.now root × (root < rows_max) }
-    ensures { result ≡ answer_of wanted (lookup_among (clauses_of false (tree_at rows.now root)) clause) }
+// Answers of a clause of a row.
+#[tactic(auto, using(crate::proofs::AnswerOfClause::lookup_too_many, crate::proofs::AnswerOfClause::lookup_no_such))]
+fn lookup_at(rows: &[u64], from: RowClause, wanted: usize) -> Result<ColumnValue, Refused>
+    requires { Sound rows.now from.at.row × (from.at.row < rows_max) }
+    ensures { result ≡ answer_of wanted (lookup_among (clauses_at rows.now from.at) from.clause) }
 {
-    let at = SignedRow {
-        row: root,
-        negated: false,
-    };
-    let Some(size) = cnf::count_clauses(rows, at) else {
+    let Some(size) = cnf::count_clauses(rows, from.at) else {
         return Err(Refusal::TooMany.at(0));
     };
-    if size.clauses as usize <= clause {
+    if size.clauses as usize <= from.clause {
         return Err(Refusal::NoSuch.at(0));
     }
-    partial_answer(clause_lookup(rows, root, clause, wanted))
+    partial_answer(clause_lookup(rows, from, wanted))
 }
 
 // Answers of a clause of a predicate.
+#[tactic(auto, using(crate::proofs::AnswerOfClause::lookup_of_tree))]
 fn lookup_of(
     text: &[u8],
     rows: &[u64],
@@ -120,10 +104,15 @@ fn lookup_of(
     ensures { result ≡ answer_of wanted (lookup_of (read_rows text.now rows.now) clause) }
 {
     let root = predicate::check(text, rows)?;
-    lookup_at(rows, root, clause, wanted)
+    let at = SignedRow {
+        row: root,
+        negated: false,
+    };
+    lookup_at(rows, RowClause { at, clause }, wanted)
 }
 
 // Answers on which column a clause is a lookup, and with how many values.
+#[tactic(auto, using(crate::proofs::LookupMeans::looking_up))]
 pub fn lookup(text: &[u8], rows: &[u64], clause: usize) -> Result<ColumnLookup, Refused>
     ensures { LooksUp text.now rows.now clause result }
 {
@@ -135,6 +124,7 @@ pub fn lookup(text: &[u8], rows: &[u64], clause: usize) -> Result<ColumnLookup, 
 }
 
 // Answers one of the values of a lookup, by its number.
+#[tactic(auto, using(crate::proofs::LookupMeans::finding))]
 pub fn value_at(text: &[u8], rows: &[u64], clause: usize, wanted: usize) -> Result<Value, Refused>
     ensures { FindsValue text.now rows.now clause wanted result }
 {

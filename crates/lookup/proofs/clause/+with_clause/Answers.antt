@@ -14,16 +14,16 @@ nonzero_div-of_left t c = each_some c.requires c.past_nots.ensures c.in-Joined.i
 pub nonzero_rem-of_right : goal.nonzero_rem-of_right
 nonzero_rem-of_right t c = each_some c.requires c.past_nots.ensures c.in-Joined.is c.if-crosswise.true c.when-each.ensures
 
-pub with_clause-first-requires : goal.with_clause-first-requires
-with_clause-first-requires t c = (
+pub with_clause-requires : goal.with_clause-requires
+with_clause-requires t c = (
   omega (arith, c.decreases, falls_left c.requires c.past_nots.ensures c.in-Joined.is),
   left_can_find c.requires c.past_nots.ensures c.in-Joined.is c.if-crosswise.true c.when-each.ensures,
 )
 
-pub with_clause-requires : goal.with_clause-requires
-with_clause-requires t c = (
+pub with_clause-requires-then-crosswise : goal.with_clause-requires-then-crosswise
+with_clause-requires-then-crosswise t c = (
   omega (arith, c.decreases, falls_right c.requires c.past_nots.ensures c.in-Joined.is),
-  right_can_find c.requires c.past_nots.ensures c.in-Joined.is c.if-crosswise.true c.when-each.ensures _ c.with_clause-first.ensures,
+  right_can_find c.requires c.past_nots.ensures c.in-Joined.is c.if-crosswise.true c.when-each.ensures _ c.with_clause.ensures,
 )
 
 pub with_clause-requires-else-crosswise : goal.with_clause-requires-else-crosswise
@@ -36,8 +36,8 @@ returns-in-Atom t c = c.with_literal.ensures ∙ atom_result c.requires c.past_n
 
 pub returns-then-crosswise : goal.returns-then-crosswise
 returns-then-crosswise t c =
-    c.with_clause.ensures
-    ∙ cross_result c.requires c.past_nots.ensures c.in-Joined.is c.if-crosswise.true c.when-each.ensures _ c.with_clause-first.ensures
+    c.with_clause-then-crosswise.ensures
+    ∙ cross_result c.requires c.past_nots.ensures c.in-Joined.is c.if-crosswise.true c.when-each.ensures _ c.with_clause.ensures
 
 pub returns-else-crosswise : goal.returns-else-crosswise
 returns-else-crosswise t c =
