@@ -9,11 +9,11 @@ use native.Mathlib.Omega.{arith}
 use native.Mathlib.Nat.{zero-add, add_assoc, add-zero}
 use native.Mathlib.Numerals.{add-one}
 use lib.ListN.{length, get_or, set, take, drop, length-append, length-map, length-drop, length-set}
-use lib.Seq.{sets, length-sets, take-suc, take-length, length-take-le, sets-eq, get_or-set_same, get_or-set_other, get_or-drop, get_or-append-add, get_or-append_right, ext_get_or}
+use lib.Seq.{sets, length-sets, take-suc, take-length, length-take-le, sets-eq, get_or-set_same, get_or-set_other, get_or-drop, get_or-append_right, ext_get_or}
 use Rattle.rows.proofs.Laws.{sets_append}
 use Rattle.limits.specs.Limits.{literals_max}
 use Rattle.cnf.specs.Clause.{Literal, literal_number, total, literal_numbers, ends_from}
-use Rattle.listing.specs.Chain.{places_max, chain_of, free_of, CellsMade, ChainsSpell, Followable, Wrote}
+use Rattle.listing.specs.Chain.{chain_of, free_of, CellsMade, ChainsSpell, Followable, Wrote}
 use Rattle.listing.specs.Listing.{RoomToPrepend, ClausesPrepended, RoomToWrite, Written, Frontier}
 use Rattle.cnf.proofs.Crossing.{cross_end}
 use Rattle.cnf.proofs.Sizes.{total_append}

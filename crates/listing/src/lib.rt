@@ -48,12 +48,14 @@ fn prepend(cells: &mut [u16], heads: &mut [u32], run: Run, x: u16)
     cells[0] = m as u16;
 }
 
-// Copies `each` heads from place `from` on to place `to` on. Where there are none, no call is made: so it is at each row whose lists are joined crosswise.
+// Copies `each` heads from place `from` on to place `to` on. Most often that is one, or none, where lists are joined crosswise: then no call is made.
 fn copy_heads(heads: &mut [u32], from: usize, to: usize, each: usize)
     requires { (from + each ≤ length heads.old) × (to + each ≤ length heads.old) }
     ensures { Copied heads.old heads.new from to each }
 {
-    if each > 0 {
+    if each == 1 {
+        heads[to] = heads[from];
+    } else if each > 1 {
         copy_some(heads, from, to, each);
     }
 }
