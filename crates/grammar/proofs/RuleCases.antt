@@ -39,7 +39,6 @@ module _ (ts : List ℕ) (c : Cursor) (t : List ℕ) where
   unfolding column
   column_plain n = rw (ne_eqb _ kind.period n, column)
 
-
 -- the cases of the rules of one level
 module _ (text ts : List ℕ) (rec : Rec) (c : Cursor) (t : List ℕ) where
   pub arguments_end : (f n left : ℕ) → kind_at ts c.at ≡ kind.close_paren →

@@ -27,4 +27,3 @@ loop-rows-preserved c = (
       (while_on _ _ _ _ _ (sym c.postfix_at.ensures ∙ c.loop-rows-test.true) ∙ after_read _ c.in_ok-c.was c.postfix.ensures),
   came c.in_ok-c.was c.postfix.ensures (postfix_writes _ _ _ c.loop-rows.invariant.1),
 )
-
