@@ -18,12 +18,11 @@ pub enum Start {
     Other,
 }
 
-// The next token, and how many rows are written. The last of them is the root of what was read last. In a step's answer `at` lies where a refusal
-// has its place, and not its name: so it stays out of memory.
+// The next token, and how many rows are written. The last of them is the root of what was read last.
 #[derive(Clone, Copy)]
 pub struct Cursor {
-    pub rows: usize,
     pub at: usize,
+    pub rows: usize,
 }
 
 impl Cursor {

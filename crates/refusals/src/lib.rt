@@ -26,11 +26,12 @@ pub enum Refusal {
     NoSuch,
 }
 
-// What an entry answers where it gives no answer: why, and the place that FORMAT §11 says.
+// What an entry answers where it gives no answer: why, and the place that FORMAT §11 says. The place comes first: in a step's answer it then lies where
+// a cursor has its token, and the compiled reader keeps that out of memory.
 #[derive(Clone, Copy, Debug, PartialEq, Eq)]
 pub struct Refused {
-    pub why: Refusal,
     pub place: usize,
+    pub why: Refusal,
 }
 
 impl Refusal {
@@ -38,7 +39,7 @@ impl Refusal {
     pub fn at(self, place: usize) -> Refused
         ensures { result ≡ refused self place }
     {
-        Refused { why: self, place }
+        Refused { place, why: self }
     }
 }
 
