@@ -16,6 +16,7 @@ use Rattle.predicate.specs.declared.Shape.{Shape}
 use Rattle.predicate.specs.declared.Shape.TheVariants as shape
 use Rattle.predicate.proofs.Shapes.{node_at, sound_operand, sound_left, sound_right}
 use Rattle.columns.specs.Lookup.{leaf_of, equal_test, is_test, test_of}
+use Rattle.columns.specs.declared.test.Test.{Test}
 
 module _ {l : List ℕ} {r : ℕ} (h : Sound l r) {s : Shape} (e : s ≡ shape_at l r) where
   pub leaf_on : {w : Row} → s ≡ shape.Leaf → w ≡ row_at l r → Some (leaf_label w) ≡ leaf_of (tree_at l r)
@@ -34,31 +35,36 @@ module _ {l : List ℕ} {r : ℕ} (h : Sound l r) {s : Shape} (e : s ≡ shape_a
       by (shape.Either x y) f = refl
       by (shape.Not x) f = refl
 
+  -- a row tests what its node tests
+  pub test_node : {k : Shape} {t : Option Test} → s ≡ k → test_of (node_of k r (row_at l r) (map (tree_at l) (operands_of (arity_of k)))) ≡ t →
+      t ≡ test_of (tree_at l r)
+  test_node f g = sym (ap test_of (node_at h e f) ∙ g)
+
   module _ {w : Row} (g : w ≡ row_at l r) where
     module _ {x : ℕ} (f : s ≡ shape.One x) where
       pub test_is : {m : Option Label} → w.kind ≡ kind.is → m ≡ leaf_of (tree_at l x) → option_and_then (λ u. is_test u w.y) m ≡ test_of (tree_at l r)
       unfolding test_of node_of arity_of operands_of
       test_is {m} i j =
           subst (λ (v : Row). v.kind ≡ kind.is → option_and_then (λ u. is_test u v.y) m ≡ test_of (tree_at l r)) (sym g)
-          (λ k. rw j (sym (ap test_of (node_at h e f) ∙ rw (eq-eqb (row_at l r).kind kind.is k, test_of)))) i
+          (λ k. rw j (test_node f (rw (eq-eqb (row_at l r).kind kind.is k, test_of)))) i
 
       pub test_unary : (w.kind ≡ kind.is → ⊥) → None ≡ test_of (tree_at l r)
       unfolding test_of node_of arity_of operands_of
-      test_unary i = sym (ap test_of (node_at h e f) ∙ rw (ne_eqb (row_at l r).kind kind.is (rw g at i), test_of))
+      test_unary i = test_node f (rw (ne_eqb (row_at l r).kind kind.is (rw g at i), test_of))
 
     module _ {x y : ℕ} (f : s ≡ shape.Two x y) where
       pub test_equal : {m k : Option Label} → w.kind ≡ kind.equal → m ≡ leaf_of (tree_at l x) → k ≡ leaf_of (tree_at l y) →
           option_and_then (λ u. option_and_then (equal_test u) k) m ≡ test_of (tree_at l r)
       unfolding test_of node_of arity_of operands_of
-      test_equal i j k = rw (j, k) (sym (ap test_of (node_at h e f) ∙ rw (eq-eqb (row_at l r).kind kind.equal (rw g at i), test_of)))
+      test_equal i j k = rw (j, k) (test_node f (rw (eq-eqb (row_at l r).kind kind.equal (rw g at i), test_of)))
 
       pub test_binary : (w.kind ≡ kind.equal → ⊥) → None ≡ test_of (tree_at l r)
       unfolding test_of node_of arity_of operands_of
-      test_binary i = sym (ap test_of (node_at h e f) ∙ rw (ne_eqb (row_at l r).kind kind.equal (rw g at i), test_of))
+      test_binary i = test_node f (rw (ne_eqb (row_at l r).kind kind.equal (rw g at i), test_of))
 
   pub test_other : ((x : ℕ) → s ≡ shape.One x → ⊥) → ((x y : ℕ) → s ≡ shape.Two x y → ⊥) → None ≡ test_of (tree_at l r)
   unfolding test_of node_of
-  test_other one two = sym (ap test_of (node_at h e refl) ∙ by s one two)
+  test_other one two = test_node refl (by s one two)
     where
       by : (k : Shape) → ((x : ℕ) → k ≡ shape.One x → ⊥) → ((x y : ℕ) → k ≡ shape.Two x y → ⊥) →
           test_of (node_of k r (row_at l r) (map (tree_at l) (operands_of (arity_of k)))) ≡ None

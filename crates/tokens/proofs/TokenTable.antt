@@ -3,12 +3,12 @@
 use mathlib.Core.Path.{◌≡◌, refl, sym, ap, ◌∙◌}
 use mathlib.Core.Bool.{Bool, true, false, ◌&&◌}
 use mathlib.Core.List.{List}
-use Prim.Native.Nat.{ℕ, suc, ◌+◌, ◌-◌, ◌*◌, ◌%◌, ◌≤◌, ◌<◌}
+use Prim.Native.Nat.{ℕ, suc, ◌+◌, ◌-◌, ◌≤◌, ◌<◌}
 use native.Mathlib.Nat.{lt_of_not-le, add-sub_cancel_left}
 use native.Mathlib.Omega.{arith}
-use borrow.Author.Tests.{lt-ltb, le-ltb, leb-true, eq-eqb, ne_eqb}
-use lib.ListN.{length, get_or, take, drop}
-use Rattle.limits.specs.Limits.{text_max, tokens_max}
+use borrow.Author.Tests.{lt-ltb, le-ltb, leb-true}
+use lib.ListN.{length, take, drop}
+use Rattle.limits.specs.Limits.{text_max}
 use Rattle.tokens.specs.Token.{token_count, token_at, kind_at, known, fits, check_from, check_table, span_of, span_at, spelled}
 use Rattle.std.specs.Prelude.{Ok, Err}
 use Rattle.refusals.specs.Refusal.{refused}
@@ -60,6 +60,11 @@ module _ (text ts : List ℕ) (n : ℕ) (at : Checking text ts n) where
       let last : n ≡ token_count ts = omega (arith, at.within) in
       let end : check_from text ts n (token_count ts - n) ≡ Ok n = rw none in
       ap Ok (sym last) ∙ sym end ∙ at.same
+
+-- a text that is too long is refused first, whatever the table is
+pub long_text : (text ts : List ℕ) → text_max < length text → check_table text ts ≡ Err (refused TooLong 0)
+unfolding check_table
+long_text text ts lt = rw (lt-ltb text_max (length text) lt, check_table)
 
 -- a part of the text
 abbrev In : List ℕ → Span → Type 0
