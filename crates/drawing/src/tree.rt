@@ -35,7 +35,7 @@ struct Pending {
     depth: usize,
 }
 
-// The rows that are still to be drawn, the next one on top.
+// The rows that are still to be drawn, the next one on top. A stack of its own, in fixed memory: nothing here uses a heap.
 #[derive(Drop)]
 struct Stack {
     pending: [Pending; ROWS_MAX],

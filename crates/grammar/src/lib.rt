@@ -18,7 +18,8 @@ pub enum Start {
     Other,
 }
 
-// The next token, and how many rows are written. The last of them is the root of what was read last.
+// The next token, and how many rows are written. The last of them is the root of what was read last. That the token is one of the table's, and that a row is
+// written, hold of some cursors only: so they stay requires, and are no ghost fields.
 #[derive(Clone, Copy)]
 pub struct Cursor {
     pub at: usize,

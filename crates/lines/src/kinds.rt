@@ -96,7 +96,7 @@ fn reserved(word: &[u8]) -> Option<u32> {
     Some(*kind)
 }
 
-// Answers the kind of token that a word is.
+// Answers the kind of token that a word is: a number, as the token table has it.
 pub fn kind_of(word: &[u8]) -> u32 {
     reserved(word).unwrap_or(match word {
         [b'.' | b'0'..=b'9', ..] => kind::NUMBER,

@@ -4,7 +4,7 @@ use crate::scan::{Word, Words};
 use tokens::kind;
 use tokens::table::{Token, WIDTH};
 
-// Answers the lowest 32 bits of a number.
+// Answers the lowest 32 bits of a number. `x as u32` and `u32::try_from(x)` would each have to say what becomes of a line of 4 GiB.
 fn low_32_bits(x: usize) -> u32 {
     (x % (1 << 32)) as u32
 }

@@ -200,7 +200,8 @@ fn argument(
     expression(&*text, &*tokens, rows, d, rest, 0)
 }
 
-// Reads the infix operators of at least `min` with their right sides, while there are any.
+// Reads the infix operators of at least `min` with their right sides, while there are any. `postfixes` has the same loop over another step: one function for
+// both would be lent two closures, and its callers would be longer than this.
 #[cycle(reading)]
 #[tactic(auto, using(grammar::proofs::RuleCases::loop_cases), unfolding(grammar::specs::Memory::infixes))]
 fn infixes(

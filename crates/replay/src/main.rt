@@ -93,7 +93,7 @@ fn report(rt: &impl Print, name: &str, tally: &Tally) -> io::Result<()> {
     println!(rt)
 }
 
-// Reads what there is, as much of it as there are places for; answers how many bytes these are.
+// Reads what there is, as much of it as there are places for; answers how many bytes these are. It goes by what each read gave, so no counted loop would do.
 fn read_full(file: &mut impl Read, list: &mut [u8]) -> io::Result<usize>
     ensures { IfOk result (λ n. n ≤ length list.new) }
 {

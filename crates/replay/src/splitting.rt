@@ -8,7 +8,7 @@ const LITERALS: usize = 1024;
 
 const ENDS: usize = 512;
 
-// What stands in the lists before a split: it stays after what is written.
+// What stands in the lists before a split: it stays after what is written. In 32 bits what `reading` has in 64: a constant has one type.
 const BEFORE: u32 = 7;
 
 // Answers the first numbers of a list, of which there are so many, if all after them is as before.

@@ -1,5 +1,5 @@
 // How a row of either family lies in its table: how many numbers it has, and the one function that reads a row and the one that writes one.
-// What the numbers of a row mean is each family's own.
+// What the numbers of a row mean is each family's own. A table stays a slice of numbers: so C lends it.
 #![tactic(auto)]
 
 ghost use Rattle.std.specs.Prelude.{◌≡◌, ◌*◌, ◌<◌, length, replicate};

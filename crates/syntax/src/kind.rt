@@ -1,4 +1,4 @@
-// The kinds of syntax rows: leaves, a function, rows over one operand, rows over two.
+// The kinds of syntax rows: leaves, a function, rows over one operand, rows over two. They stay numbers: callers' tables have them, at the C face too.
 pub const ALL: u64 = 1;
 
 pub const INTEGER: u64 = 2;

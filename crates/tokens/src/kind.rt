@@ -1,5 +1,6 @@
 // The kinds of tokens. Numbers, strings and names; then the signs and the keywords that expressions use, infix operators by rising precedence;
-// then the other keywords, by the alphabet.
+// then the other keywords, by the alphabet. They stay numbers and become no enum: callers' tables have them, at the C face too, and any number at all may
+// stand there.
 
 // What carries a spelling.
 pub const NUMBER: u32 = 1;

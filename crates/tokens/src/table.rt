@@ -1,4 +1,5 @@
-// The table of tokens: its check, and the bytes of a token.
+// The table of tokens: its check, and the bytes of a token. The table stays a slice of numbers, three for a token: so C lends it. The text and the table stay
+// two parameters: a struct that holds slices is named at two moments in each clause (`t.entry.text.now`).
 ghost use Rattle.std.specs.Prelude.{◌≡◌, ◌&&◌, ◌+◌};
 ghost use Rattle.tokens.specs.Token.{token_count, token_at, kind_at, known as known_of, fits, check_from, check_table, span_at, spelled as spelled_of};
 
@@ -9,7 +10,8 @@ use refusals::{Refusal, Refused};
 // Numbers per token.
 pub const WIDTH: usize = 3;
 
-// A token: its kind, and its span in the text. No token is kind 0 with an empty span.
+// A token: its kind, and its span in the text. No token is kind 0 with an empty span, and no Option: so `token_at` of specs/ has it, and 0 is no kind, so
+// that a reader asks one question.
 #[derive(Clone, Copy)]
 pub struct Token {
     pub kind: u32,
@@ -17,7 +19,7 @@ pub struct Token {
     pub length: u32,
 }
 
-// A part of the text.
+// A part of the text. It is no `Range`: that is not Copy, and `span_at` of specs/ says where it starts and how long it is.
 #[derive(Clone, Copy)]
 pub struct Span {
     pub start: usize,
