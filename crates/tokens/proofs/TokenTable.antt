@@ -47,7 +47,8 @@ module _ (text ts : List ℕ) (n : ℕ) (at : Checking text ts n) where
       let turn : check_from text ts n (token_count ts - n) ≡ check_from text ts (n + 1) (token_count ts - (n + 1)) = rw (one_left lt, e, check_from) in
       record { within = omega arith; same = sym turn ∙ at.same }
 
-  pub check_off : n < token_count ts → (known (kind_at ts n) && fits text (token_at ts n)) ≡ false → Err (refused BadTable n) ≡ check_from text ts 0 (token_count ts)
+  pub check_off : n < token_count ts → (known (kind_at ts n) && fits text (token_at ts n)) ≡ false →
+      Err (refused BadTable n) ≡ check_from text ts 0 (token_count ts)
   unfolding check_from
   check_off lt e =
       let turn : check_from text ts n (token_count ts - n) ≡ Err (refused BadTable n) = rw (one_left lt, e, check_from) in
