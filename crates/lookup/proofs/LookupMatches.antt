@@ -1,5 +1,5 @@
 -- A lookup keeps exactly the right cells (`lookup_matches`): where a clause is a lookup on a column, it is TRUE exactly if the column's cell matches one of
--- its values. `literal_test_lem` says it of one literal: it is TRUE exactly if the cell matches the value that its test looks for.
+-- its values. `literal_finds` says it of one literal: it is TRUE exactly if the cell matches the value that its test looks for.
 -- Assumes nothing.
 use mathlib.Core.Path.{◌≡◌, refl, sym, ap, ap₂, ◌∙◌}
 use Prim.Native.Nat.{ℕ}
@@ -67,7 +67,7 @@ true_or kleene.NULL kleene.TRUE = refl
 true_or kleene.TRUE w = refl
 
 -- what is no test tests no column
-false_true : {A : Type 0} → false ≡ true → A
+pub false_true : {A : Type 0} → false ≡ true → A
 false_true e = let z : ◌≡◌ {A = ℕ} 0 1 = cc in absurd (omega arith)
 
 -- ---- values
@@ -115,7 +115,7 @@ module _ (text : List ℕ) (cell : Cell) where
   unfolding matches cell_of is_null is_nan is_nan_float
   nan_matches = rw (and-false (is_null cell), and-true (is_nan cell), nan_never cell nan refl, or-false (is_nan cell), or-false (is_nan cell))
 
-  is_matches : (y : ℕ) → is_true (is y cell) ≡ any_match text cell (elim (eqb y 0) [ true ↦ value.Null | false ↦ value.Float nan ] ∷ [])
+  pub is_matches : (y : ℕ) → is_true (is y cell) ≡ any_match text cell (elim (eqb y 0) [ true ↦ value.Null | false ↦ value.Float nan ] ∷ [])
   unfolding is any_match
   is_matches y = by (eqb y 0)
     where
@@ -127,7 +127,7 @@ module _ (text : List ℕ) (cell : Cell) where
 -- ---- tests
 
 -- a constant is no column
-constant_only : (w : Label) → is_constant w ≡ true → is_column w ≡ false
+pub constant_only : (w : Label) → is_constant w ≡ true → is_column w ≡ false
 unfolding is_column is_constant
 constant_only w e = by (eqb w.kind kind.column) refl
   where
@@ -228,10 +228,10 @@ module _ (text : List ℕ) (world : World) where
     atom_test (either r l a b) = no_test _
     atom_test (negation r l a) = no_test _
 
-    literal_test_lem : (l : Literal) → Finds (literal_value text world l) (literal_test l)
+    literal_finds : (l : Literal) → Finds (literal_value text world l) (literal_test l)
     unfolding literal_test literal_value
-    literal_test_lem (literal false a) = atom_test a
-    literal_test_lem (literal true a) = no_test _
+    literal_finds (literal false a) = atom_test a
+    literal_finds (literal true a) = no_test _
 
 -- ---- clauses
 
@@ -245,7 +245,7 @@ module _ (text : List ℕ) (world : World) where
       let this = (both_true (tests_column c (literal_test l)) (all_test_column c (map literal_test ls)) e).0 in
       true_or (literal_value text world l) (clause_value text world ls)
       ∙ ap₂ ◌||◌
-      (literal_test_lem text world c l this)
+      (literal_finds text world c l this)
       (all_match c ls (both_true (tests_column c (literal_test l)) (all_test_column c (map literal_test ls)) e).1)
       ∙ sym (any_append text (world.column c) (value_in (literal_test l)) (values_in (map literal_test ls)))
 
