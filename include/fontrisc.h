@@ -44,7 +44,7 @@ extern "C" {
  * nothing does for `fontrisc_spelled`. */
 #define FONTRISC_STACK_PARSE 65536
 #define FONTRISC_STACK_SPLIT 262144
-#define FONTRISC_STACK_LOOKUP 393216 /* for `fontrisc_value` too */
+#define FONTRISC_STACK_LOOKUP 262144 /* for `fontrisc_value` too */
 
 /* The refusals (FORMAT 11.1), each with its place. */
 #define FONTRISC_TOO_LONG 1     /* text, tokens or predicate rows over the limit; 0 */

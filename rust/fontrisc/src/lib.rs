@@ -93,7 +93,7 @@ pub mod stack {
     /// For `split` and `clauses_of`.
     pub const SPLIT: usize = 256 << 10;
     /// For `lookup`, `value_at` and `values`.
-    pub const LOOKUP: usize = 384 << 10;
+    pub const LOOKUP: usize = 256 << 10;
 }
 
 /// The refusal that a C function's number and place are.
