@@ -10,7 +10,7 @@ use borrow.Author.Tests.{eq-eqb, ne_eqb}
 use lib.Dec.{eqb, eqb-suc-suc}
 use lib.ListN.{length, get_or, length-append}
 use Rattle.std.specs.Prelude.{Option, Some, None}
-use Rattle.columns.specs.Lookup.{tests_column, all_test_column, value_list, value_in, values_in}
+use Rattle.columns.specs.Lookup.{tests_column, all_test_column, looked_for, value_list, value_in, values_in}
 use Rattle.columns.specs.Lookup.{ClauseLookup, on, none, lookup_on, lookup_from, lookup_in}
 use Rattle.columns.specs.Partial.{column_value, with_value, with_test, with_tests, value_count}
 use Rattle.columns.specs.declared.test.Test.{Test}
@@ -37,12 +37,12 @@ value_counts_one n g (Some v) = omega arith
 test_counts_one : (n : ℕ) (g : PartialLookup) (t : Option Test) → value_count (with_test n g t) ≤ value_count g + 1
 unfolding with_test value_count
 test_counts_one n g None = omega arith
-test_counts_one n Empty (Some t) = value_counts_one n (column_value t.column 0 Null) t.value
+test_counts_one n Empty (Some t) = value_counts_one n (column_value t.column 0 Null) (looked_for t.condition)
 test_counts_one n NotLookup (Some t) = omega arith
 test_counts_one n (OnColumn g) (Some t) = by (eqb g.column t.column)
   where
-    by : (b : Bool) → value_count (elim b [ true ↦ OnColumn (with_value n g t.value) | false ↦ NotLookup ]) ≤ g.values + 1
-    by true = value_counts_one n g t.value
+    by : (b : Bool) → value_count (elim b [ true ↦ OnColumn (with_value n g (looked_for t.condition)) | false ↦ NotLookup ]) ≤ g.values + 1
+    by true = value_counts_one n g (looked_for t.condition)
     by false = omega arith
 
 pub tests_count : (n : ℕ) (g : PartialLookup) (ts : List (Option Test)) → value_count (with_tests n g ts) ≤ value_count g + length ts
@@ -84,15 +84,15 @@ tests_rest : (n c : ℕ) (vs : List Value) (ts : List (Option Test)) → with_te
 unfolding with_tests with_test all_test_column tests_column value_in values_in
 tests_rest n c vs [] = ap (λ (ws : List Value). OnColumn (so_far n c ws)) (sym (append-nil vs))
 tests_rest n c vs (None ∷ ts) = tests_after_none n ts
-tests_rest n c vs (Some t ∷ ts) = by (eqb c t.column) (tests_rest n c (vs ++ value_list t.value) ts)
+tests_rest n c vs (Some t ∷ ts) = by (eqb c t.column) (tests_rest n c (vs ++ value_list (looked_for t.condition)) ts)
   where
-    by : (b : Bool) → with_tests n (OnColumn (so_far n c (vs ++ value_list t.value))) ts ≡ goes_on n c (vs ++ value_list t.value) ts (all_test_column c ts) →
-        with_tests n (elim b [ true ↦ OnColumn (with_value n (so_far n c vs) t.value) | false ↦ NotLookup ]) ts
+    by : (b : Bool) → with_tests n (OnColumn (so_far n c (vs ++ value_list (looked_for t.condition)))) ts ≡ goes_on n c (vs ++ value_list (looked_for t.condition)) ts (all_test_column c ts) →
+        with_tests n (elim b [ true ↦ OnColumn (with_value n (so_far n c vs) (looked_for t.condition)) | false ↦ NotLookup ]) ts
         ≡ goes_on n c vs (Some t ∷ ts) (b && all_test_column c ts)
-    by true h = ap (λ (g : ColumnValue). with_tests n (OnColumn g) ts) (value_appended n c vs t.value) ∙ h ∙ same (all_test_column c ts)
+    by true h = ap (λ (g : ColumnValue). with_tests n (OnColumn g) ts) (value_appended n c vs (looked_for t.condition)) ∙ h ∙ same (all_test_column c ts)
       where
-        same : (b : Bool) → goes_on n c (vs ++ value_list t.value) ts b ≡ goes_on n c vs (Some t ∷ ts) b
-        same true = ap (λ (ws : List Value). OnColumn (so_far n c ws)) (append_assoc vs (value_list t.value) (values_in ts))
+        same : (b : Bool) → goes_on n c (vs ++ value_list (looked_for t.condition)) ts b ≡ goes_on n c vs (Some t ∷ ts) b
+        same true = ap (λ (ws : List Value). OnColumn (so_far n c ws)) (append_assoc vs (value_list (looked_for t.condition)) (values_in ts))
         same false = refl
     by false h = tests_after_none n ts
 
@@ -105,13 +105,13 @@ pub partial_of_clause : (n : ℕ) (t : Option Test) (ts : List (Option Test)) �
 unfolding with_tests with_test lookup_in lookup_from lookup_on all_test_column tests_column value_in values_in partial_of
 partial_of_clause n None ts = tests_after_none n ts
 partial_of_clause n (Some t) ts =
-    ap (λ (g : ColumnValue). with_tests n (OnColumn g) ts) (value_appended n t.column [] t.value)
-    ∙ tests_rest n t.column (value_list t.value) ts
+    ap (λ (g : ColumnValue). with_tests n (OnColumn g) ts) (value_appended n t.column [] (looked_for t.condition))
+    ∙ tests_rest n t.column (value_list (looked_for t.condition)) ts
     ∙ by (all_test_column t.column ts) refl
   where
     by : (b : Bool) → all_test_column t.column ts ≡ b →
-        goes_on n t.column (value_list t.value) ts b
+        goes_on n t.column (value_list (looked_for t.condition)) ts b
         ≡ partial_of n
-        (elim (eqb t.column t.column && all_test_column t.column ts) [ true ↦ on t.column (value_list t.value ++ values_in ts) | false ↦ none ])
+        (elim (eqb t.column t.column && all_test_column t.column ts) [ true ↦ on t.column (value_list (looked_for t.condition) ++ values_in ts) | false ↦ none ])
     by true f = rw (eq-eqb t.column t.column refl, f)
     by false f = rw (eq-eqb t.column t.column refl, f)

@@ -10,6 +10,8 @@ use Rattle.values.specs.Value.{constant_of_label, value_of, is_undefined}
 use Rattle.values.specs.declared.Value.{Value}
 use Rattle.values.specs.declared.Value.TheVariants.{Null, Float}
 use Rattle.columns.specs.declared.test.Test.{Test}
+use Rattle.columns.specs.declared.test.Condition.{Condition}
+use Rattle.columns.specs.declared.test.Condition.TheVariants.{Equals, Is}
 
 -- ---- what an atom tests
 
@@ -28,13 +30,9 @@ is_column l = eqb l.kind kind.column
 unfoldable pub is_constant : Label → Bool
 is_constant l = leb kind.null l.kind && leb l.kind kind.string
 
--- the value, unless no cell equals it
-unfoldable pub defined : Value → Option Value
-defined v = elim (is_undefined v) [ true ↦ None | false ↦ Some v ]
-
 -- a column is compared with a constant
 unfoldable pub comparison : Label → Label → Test
-comparison l m = record { column = l.x; value = defined (value_of (constant_of_label m)) }
+comparison l m = record { column = l.x; condition = Equals (constant_of_label m) }
 
 -- Equal of a column and a constant, either way round
 unfoldable pub equal_test : Label → Label → Option Test
@@ -44,10 +42,9 @@ equal_test l m =
       | false ↦ elim (is_column m && is_constant l) [ true ↦ Some (comparison m l) | false ↦ None ]
     ]
 
--- Is of a column: it looks for NULL (0) or NaN
+-- Is of a column
 unfoldable pub is_test : Label → ℕ → Option Test
-is_test l y =
-    elim (is_column l) [ true ↦ Some (record { column = l.x; value = Some (elim (eqb y 0) [ true ↦ Null | false ↦ Float nan ]) }) | false ↦ None ]
+is_test l y = elim (is_column l) [ true ↦ Some (record { column = l.x; condition = Is y }) | false ↦ None ]
 
 unfoldable pub test_of : Tree → Option Test
 test_of (leaf r l) = None
@@ -82,10 +79,19 @@ abbrev pub value_list : Option Value → List Value
 value_list None = []
 value_list (Some v) = v ∷ []
 
+-- the value, unless no cell equals it
+unfoldable pub defined : Value → Option Value
+defined v = elim (is_undefined v) [ true ↦ None | false ↦ Some v ]
+
+-- the value that is looked for: the constant's; NULL (0) or NaN
+unfoldable pub looked_for : Condition → Option Value
+looked_for (Equals k) = defined (value_of k)
+looked_for (Is y) = Some (elim (eqb y 0) [ true ↦ Null | false ↦ Float nan ])
+
 -- the value that a test looks for, or none
 unfoldable pub value_in : Option Test → List Value
 value_in None = []
-value_in (Some t) = value_list t.value
+value_in (Some t) = value_list (looked_for t.condition)
 
 -- in order
 unfoldable pub values_in : List (Option Test) → List Value

@@ -2,6 +2,7 @@
 use Rattle.std.specs.Prelude.{Option, Some, None, ℕ, ◌+◌, true, false, List, [], ◌∷◌, eqb}
 use Rattle.values.specs.declared.Value.{Value}
 use Rattle.values.specs.declared.Value.TheVariants.{Null}
+use Rattle.columns.specs.Lookup.{looked_for}
 use Rattle.columns.specs.declared.test.Test.{Test}
 use Rattle.columns.specs.declared.partial.ColumnValue.{ColumnValue}
 use Rattle.columns.specs.declared.partial.PartialLookup.{PartialLookup}
@@ -19,9 +20,9 @@ with_value n so_far (Some v) = column_value so_far.column (so_far.values + 1) (e
 -- one literal more; the first says which column it must be
 unfoldable pub with_test : ℕ → PartialLookup → Option Test → PartialLookup
 with_test n p None = NotLookup
-with_test n Empty (Some t) = OnColumn (with_value n (column_value t.column 0 Null) t.value)
+with_test n Empty (Some t) = OnColumn (with_value n (column_value t.column 0 Null) (looked_for t.condition))
 with_test n NotLookup (Some t) = NotLookup
-with_test n (OnColumn so_far) (Some t) = elim (eqb so_far.column t.column) [ true ↦ OnColumn (with_value n so_far t.value) | false ↦ NotLookup ]
+with_test n (OnColumn so_far) (Some t) = elim (eqb so_far.column t.column) [ true ↦ OnColumn (with_value n so_far (looked_for t.condition)) | false ↦ NotLookup ]
 
 unfoldable pub with_tests : ℕ → PartialLookup → List (Option Test) → PartialLookup
 with_tests n p [] = p

@@ -64,7 +64,7 @@ impl PartialLookup {
             PartialLookup::OnColumn(so_far) if so_far.column == test.column => so_far,
             _ => return PartialLookup::NotLookup,
         };
-        PartialLookup::OnColumn(so_far.with_value(wanted, test.value))
+        PartialLookup::OnColumn(so_far.with_value(wanted, test.condition.value()))
     }
 }
 

@@ -3,17 +3,40 @@ ghost use Rattle.std.specs.Prelude.{◌≡◌, ◌<◌};
 ghost use Rattle.std.specs.Option.{option_map};
 ghost use Rattle.rows.specs.Label.{leaf_label};
 ghost use Rattle.predicate.specs.Tree.{tree_at, Sound};
-ghost use Rattle.columns.specs.Lookup.{leaf_of, is_column, is_constant, defined, comparison, equal_test, is_test, test_of};
+ghost use Rattle.columns.specs.Lookup.{leaf_of, is_column, is_constant, looked_for, comparison, equal_test, is_test, test_of};
 
 use predicate::{Shape, kind, shape_at};
 use rows::{Row, row_at};
 use values::{Constant, Value};
 
-// A test of a column, by Equal or Is: the value that it looks for, or none where no cell passes it.
+// A test of a column.
 #[derive(Clone, Copy)]
 pub struct Test {
     pub column: usize,
-    pub value: Option<Value>,
+    pub condition: Condition,
+}
+
+// What a test asks of its column: that it equals a constant; or that it is NULL (0) or NaN.
+#[derive(Clone, Copy)]
+pub enum Condition {
+    Equals(Constant),
+    Is(u64),
+}
+
+impl Condition {
+    // Answers the value that is looked for: none, if it is a constant that no cell equals.
+    #[tactic(auto, unfolding(crate::specs::Lookup::looked_for, crate::specs::Lookup::defined))]
+    pub fn value(self) -> Option<Value>
+        ensures { result ≡ looked_for self }
+    {
+        match self {
+            Condition::Equals(constant) => {
+                Some(Value::from(constant)).filter(|value| !value.is_undefined())
+            }
+            Condition::Is(0) => Some(Value::Null),
+            Condition::Is(_) => Some(Value::Float(f64::NAN)),
+        }
+    }
 }
 
 #[tactic(auto, unfolding(crate::specs::Lookup::is_column))]
@@ -42,27 +65,14 @@ fn leaf_at(rows: &[u64], row: usize) -> Option<Row>
     }
 }
 
-// Answers the value, unless it is NULL or NaN.
-#[tactic(auto, unfolding(crate::specs::Lookup::defined))]
-fn defined(value: Value) -> Option<Value>
-    ensures { result ≡ defined value }
-{
-    if value.is_undefined() {
-        None
-    } else {
-        Some(value)
-    }
-}
-
 // Answers the test that compares a column with a constant.
 #[tactic(auto, unfolding(crate::specs::Lookup::comparison))]
 fn comparison(column: Row, constant: Row) -> Test
     ensures { result ≡ comparison (leaf_label column) (leaf_label constant) }
 {
-    let value = Value::from(Constant::from(constant));
     Test {
         column: column.x as usize,
-        value: defined(value),
+        condition: Condition::Equals(Constant::from(constant)),
     }
 }
 
@@ -80,7 +90,7 @@ fn equal_test(left: Row, right: Row) -> Option<Test>
     }
 }
 
-// Answers what Is of an operand tests: NULL (0) or NaN.
+// Answers what Is of an operand tests.
 #[tactic(auto, unfolding(crate::specs::Lookup::is_test))]
 fn is_test(operand: Row, what: u64) -> Option<Test>
     ensures { result ≡ is_test (leaf_label operand) what }
@@ -88,14 +98,9 @@ fn is_test(operand: Row, what: u64) -> Option<Test>
     if !is_column(operand) {
         return None;
     }
-    let value = if what == 0 {
-        Value::Null
-    } else {
-        Value::Float(f64::NAN)
-    };
     Some(Test {
         column: operand.x as usize,
-        value: Some(value),
+        condition: Condition::Is(what),
     })
 }
 

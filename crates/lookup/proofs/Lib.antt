@@ -3,7 +3,6 @@ pub mod HeldCounts
 pub mod ClauseOfJoined
 pub mod EqualSymmetric
 pub mod LookupMatches
-pub mod LiteralValues
 pub mod ChoiceOfCells
 pub mod AnswerOfClause
 pub mod LookupMeans

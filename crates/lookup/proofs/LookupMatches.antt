@@ -1,5 +1,5 @@
 -- A lookup keeps exactly the right cells (`lookup_matches`): where a clause is a lookup on a column, it is TRUE exactly if the column's cell matches one of
--- its values. `literal_finds` says it of one literal: it is TRUE exactly if the cell matches the value that its test looks for.
+-- its values. `literal_test_lem` says that the test which stands for a literal has the literal's value.
 -- Assumes nothing.
 use mathlib.Core.Path.{◌≡◌, refl, sym, ap, ap₂, ◌∙◌}
 use Prim.Native.Nat.{ℕ}
@@ -17,12 +17,14 @@ use Rattle.cnf.specs.Kleene as kleene
 use Rattle.cnf.specs.Clause.{Literal, literal}
 use Rattle.values.specs.Value.{constant_of_label, value_of, is_undefined}
 use Rattle.lookup.specs.Cell.{Cell, null, boolean, integer, float, string, cell_of, is_null, is_nan, same, truth, is_true, equal, is, matches}
-use Rattle.columns.specs.Lookup.{leaf_of, is_column, is_constant, defined, comparison, equal_test, is_test, test_of, literal_test}
+use Rattle.columns.specs.Lookup.{leaf_of, is_column, is_constant, defined, looked_for, comparison, equal_test, is_test, test_of, literal_test}
 use Rattle.columns.specs.Lookup.{on, none, tests_column, all_test_column, value_list, value_in, values_in, lookup_on, lookup_from, lookup_in, clause_lookup}
 use Rattle.lookup.proofs.EqualSymmetric.{equal_symmetric}
 use Rattle.lookup.specs.Meaning.{World, cell_in, predicate_value, literal_value, clause_value, any_match}
 use Rattle.rows.specs.Label.{Label}
 use Rattle.columns.specs.declared.test.Test.{Test}
+use Rattle.columns.specs.declared.test.Condition.{Condition}
+use Rattle.columns.specs.declared.test.Condition.TheVariants.{Equals, Is}
 use Rattle.values.proofs.ConstantsReadBack.{both_true}
 use Rattle.values.specs.declared.Value.{Value}
 use Rattle.values.specs.declared.Value.TheVariants as value
@@ -67,7 +69,7 @@ true_or kleene.NULL kleene.TRUE = refl
 true_or kleene.TRUE w = refl
 
 -- what is no test tests no column
-pub false_true : {A : Type 0} → false ≡ true → A
+false_true : {A : Type 0} → false ≡ true → A
 false_true e = let z : ◌≡◌ {A = ℕ} 0 1 = cc in absurd (omega arith)
 
 -- ---- values
@@ -115,7 +117,7 @@ module _ (text : List ℕ) (cell : Cell) where
   unfolding matches cell_of is_null is_nan is_nan_float
   nan_matches = rw (and-false (is_null cell), and-true (is_nan cell), nan_never cell nan refl, or-false (is_nan cell), or-false (is_nan cell))
 
-  pub is_matches : (y : ℕ) → is_true (is y cell) ≡ any_match text cell (elim (eqb y 0) [ true ↦ value.Null | false ↦ value.Float nan ] ∷ [])
+  is_matches : (y : ℕ) → is_true (is y cell) ≡ any_match text cell (elim (eqb y 0) [ true ↦ value.Null | false ↦ value.Float nan ] ∷ [])
   unfolding is any_match
   is_matches y = by (eqb y 0)
     where
@@ -126,8 +128,34 @@ module _ (text : List ℕ) (cell : Cell) where
 
 -- ---- tests
 
+-- a condition's value, where the column holds a cell
+unfoldable condition_value : List ℕ → Cell → Condition → kleene.Value
+condition_value text cell (Equals k) = equal cell (cell_of text (value_of k))
+condition_value text cell (Is y) = is y cell
+
+-- and a test's
+unfoldable test_value : List ℕ → Cell → Option Test → kleene.Value
+test_value text cell None = kleene.NULL
+test_value text cell (Some t) = condition_value text cell t.condition
+
+module _ (text : List ℕ) (cell : Cell) where
+  is_test_lem : (c y : ℕ) → is_true (test_value text cell (Some (record { column = c; condition = Is y })))
+      ≡ any_match text cell (value_in (Some (record { column = c; condition = Is y })))
+  unfolding test_value condition_value value_in looked_for
+  is_test_lem c y = is_matches text cell y
+
+  -- what a test looks for is matched where the test is TRUE
+  test_matches : (t : Option Test) → is_true (test_value text cell t) ≡ any_match text cell (value_in t)
+  unfolding test_value condition_value value_in looked_for any_match
+  test_matches None = refl
+  test_matches (Some t) = by t.condition
+    where
+      by : (k : Condition) → is_true (condition_value text cell k) ≡ any_match text cell (value_list (looked_for k))
+      by (Equals k) = comparison_matches text cell (value_of k)
+      by (Is y) = is_matches text cell y
+
 -- a constant is no column
-pub constant_only : (w : Label) → is_constant w ≡ true → is_column w ≡ false
+constant_only : (w : Label) → is_constant w ≡ true → is_column w ≡ false
 unfolding is_column is_constant
 constant_only w e = by (eqb w.kind kind.column) refl
   where
@@ -145,24 +173,23 @@ module _ (text : List ℕ) (world : World) where
   constant_cell r l e = rw (constant_only l e, cell_in)
 
   module _ (c : ℕ) where
-    -- a literal of this value is TRUE exactly if the cell matches what this test looks for
-    abbrev Finds : kleene.Value → Option Test → Type 0
-    Finds v t = tests_column c t ≡ true → is_true v ≡ any_match text (world.column c) (value_in t)
+    -- where this test is of column c, this is its value
+    abbrev Worth : kleene.Value → Option Test → Type 0
+    Worth v t = tests_column c t ≡ true → v ≡ test_value text (world.column c) t
 
-    no_test : (v : kleene.Value) → Finds v None
+    no_test : (v : kleene.Value) → Worth v None
     unfolding tests_column
     no_test v e = false_true e
 
     -- one way round
     column_first : (r q : ℕ) (l m : Label) → (is_column l && is_constant m) ≡ true →
-        Finds (equal (cell_in text world (leaf r l)) (cell_in text world (leaf q m))) (Some (comparison l m))
-    unfolding tests_column comparison value_in
+        Worth (equal (cell_in text world (leaf r l)) (cell_in text world (leaf q m))) (Some (comparison l m))
+    unfolding tests_column comparison test_value condition_value
     column_first r q l m e f =
         let parts = both_true (is_column l) (is_constant m) e in
-        ap is_true (ap₂ equal (column_cell r l parts.0 ∙ ap world.column (sym (eqb-true c l.x f))) (constant_cell q m parts.1))
-        ∙ comparison_matches text (world.column c) (value_of (constant_of_label m))
+        ap₂ equal (column_cell r l parts.0 ∙ ap world.column (sym (eqb-true c l.x f))) (constant_cell q m parts.1)
 
-    equal_leaves : (r q : ℕ) (l m : Label) → Finds (equal (cell_in text world (leaf r l)) (cell_in text world (leaf q m))) (equal_test l m)
+    equal_leaves : (r q : ℕ) (l m : Label) → Worth (equal (cell_in text world (leaf r l)) (cell_in text world (leaf q m))) (equal_test l m)
     unfolding equal_test
     equal_leaves r q l m = by (is_column l && is_constant m) (is_column m && is_constant l) refl refl
       where
@@ -170,13 +197,12 @@ module _ (text : List ℕ) (world : World) where
         both_cells = equal (cell_in text world (leaf r l)) (cell_in text world (leaf q m))
 
         by : (p s : Bool) → (is_column l && is_constant m) ≡ p → (is_column m && is_constant l) ≡ s →
-            Finds both_cells (elim p [ true ↦ Some (comparison l m) | false ↦ elim s [ true ↦ Some (comparison m l) | false ↦ None ] ])
+            Worth both_cells (elim p [ true ↦ Some (comparison l m) | false ↦ elim s [ true ↦ Some (comparison m l) | false ↦ None ] ])
         by true s f g = column_first r q l m f
-        by false true f g = λ e.
-            ap is_true (equal_symmetric (cell_in text world (leaf r l)) (cell_in text world (leaf q m))) ∙ column_first q r m l g e
+        by false true f g = λ e. equal_symmetric (cell_in text world (leaf r l)) (cell_in text world (leaf q m)) ∙ column_first q r m l g e
         by false false f g = no_test both_cells
 
-    equal_value : (a b : Tree) → Finds (equal (cell_in text world a) (cell_in text world b))
+    equal_value : (a b : Tree) → Worth (equal (cell_in text world a) (cell_in text world b))
         (option_and_then (λ m. option_and_then (equal_test m) (leaf_of b)) (leaf_of a))
     unfolding leaf_of
     equal_value (leaf r l) (leaf q m) = equal_leaves r q l m
@@ -191,16 +217,16 @@ module _ (text : List ℕ) (world : World) where
     equal_value (either r l a d) b = no_test _
     equal_value (negation r l a) b = no_test _
 
-    is_of_leaf : (r : ℕ) (l : Label) (y : ℕ) → Finds (is y (cell_in text world (leaf r l))) (is_test l y)
-    unfolding is_test tests_column value_in
+    is_of_leaf : (r : ℕ) (l : Label) (y : ℕ) → Worth (is y (cell_in text world (leaf r l))) (is_test l y)
+    unfolding is_test tests_column test_value condition_value
     is_of_leaf r l y = by (is_column l) refl
       where
-        by : (p : Bool) → is_column l ≡ p → Finds (is y (cell_in text world (leaf r l)))
-            (elim p [ true ↦ Some (record { column = l.x; value = Some (elim (eqb y 0) [ true ↦ value.Null | false ↦ value.Float nan ]) }) | false ↦ None ])
-        by true f e = ap (λ (x : Cell). is_true (is y x)) (column_cell r l f ∙ ap world.column (sym (eqb-true c l.x e))) ∙ is_matches text (world.column c) y
+        by : (p : Bool) → is_column l ≡ p → Worth (is y (cell_in text world (leaf r l)))
+            (elim p [ true ↦ Some (record { column = l.x; condition = Is y }) | false ↦ None ])
+        by true f e = ap (is y) (column_cell r l f ∙ ap world.column (sym (eqb-true c l.x e)))
         by false f e = false_true e
 
-    is_value : (a : Tree) (y : ℕ) → Finds (is y (cell_in text world a)) (option_and_then (λ m. is_test m y) (leaf_of a))
+    is_value : (a : Tree) (y : ℕ) → Worth (is y (cell_in text world a)) (option_and_then (λ m. is_test m y) (leaf_of a))
     unfolding leaf_of
     is_value (leaf r l) y = is_of_leaf r l y
     is_value (unary r l a) y = no_test _
@@ -209,18 +235,18 @@ module _ (text : List ℕ) (world : World) where
     is_value (either r l a b) y = no_test _
     is_value (negation r l a) y = no_test _
 
-    atom_test : (t : Tree) → Finds (predicate_value text world t) (test_of t)
+    atom_test : (t : Tree) → Worth (predicate_value text world t) (test_of t)
     unfolding test_of predicate_value
     atom_test (leaf r l) = no_test _
     atom_test (unary r l a) = by (eqb l.kind kind.is)
       where
-        by : (p : Bool) → Finds (elim p [ true ↦ is l.y (cell_in text world a) | false ↦ world.other r ])
+        by : (p : Bool) → Worth (elim p [ true ↦ is l.y (cell_in text world a) | false ↦ world.other r ])
             (elim p [ true ↦ option_and_then (λ m. is_test m l.y) (leaf_of a) | false ↦ None ])
         by true = is_value a l.y
         by false = no_test _
     atom_test (binary r l a b) = by (eqb l.kind kind.equal)
       where
-        by : (p : Bool) → Finds (elim p [ true ↦ equal (cell_in text world a) (cell_in text world b) | false ↦ world.other r ])
+        by : (p : Bool) → Worth (elim p [ true ↦ equal (cell_in text world a) (cell_in text world b) | false ↦ world.other r ])
             (elim p [ true ↦ option_and_then (λ m. option_and_then (equal_test m) (leaf_of b)) (leaf_of a) | false ↦ None ])
         by true = equal_value a b
         by false = no_test _
@@ -228,10 +254,10 @@ module _ (text : List ℕ) (world : World) where
     atom_test (either r l a b) = no_test _
     atom_test (negation r l a) = no_test _
 
-    literal_finds : (l : Literal) → Finds (literal_value text world l) (literal_test l)
+    literal_test_lem : (l : Literal) → Worth (literal_value text world l) (literal_test l)
     unfolding literal_test literal_value
-    literal_finds (literal false a) = atom_test a
-    literal_finds (literal true a) = no_test _
+    literal_test_lem (literal false a) = atom_test a
+    literal_test_lem (literal true a) = no_test _
 
 -- ---- clauses
 
@@ -245,7 +271,7 @@ module _ (text : List ℕ) (world : World) where
       let this = (both_true (tests_column c (literal_test l)) (all_test_column c (map literal_test ls)) e).0 in
       true_or (literal_value text world l) (clause_value text world ls)
       ∙ ap₂ ◌||◌
-      (literal_finds text world c l this)
+      (ap is_true (literal_test_lem text world c l this) ∙ test_matches text (world.column c) (literal_test l))
       (all_match c ls (both_true (tests_column c (literal_test l)) (all_test_column c (map literal_test ls)) e).1)
       ∙ sym (any_append text (world.column c) (value_in (literal_test l)) (values_in (map literal_test ls)))
 

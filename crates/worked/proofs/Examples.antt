@@ -32,7 +32,7 @@ unfolding cases said.tokens said.parsed said.split said.values said.looked_up pr
     order.directly_before order.push row.is_one_of row.classes row.class_in row.class_of row.allowed_of row.shape_of row.shape_at row.arity_of
     row.operands_of tree.root_of tree.node_of read.step_at read.ended read.and_then read.read_from read.read_rows clause.clauses
     clause.literal_number value.signed_of value.pattern_of value.value_by value.value_of value.constant_of value.is_undefined lookup.leaf_of
-    lookup.is_column lookup.is_constant lookup.defined lookup.comparison lookup.equal_test lookup.is_test lookup.test_of lookup.literal_test lookup.tests_column
+    lookup.is_column lookup.is_constant lookup.defined lookup.looked_for lookup.comparison lookup.equal_test lookup.is_test lookup.test_of lookup.literal_test lookup.tests_column
     lookup.all_test_column lookup.value_in lookup.values_in lookup.lookup_on lookup.lookup_from lookup.lookup_in lookup.clause_lookup
     answer.lookup_or_refusal answer.lookup_among answer.lookup_of
 examples = refl
