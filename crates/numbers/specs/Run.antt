@@ -1,11 +1,11 @@
 -- What a run of digits is worth while it is read. No entry's promise names this file.
-use Rattle.std.specs.Prelude.{ℕ, ◌+◌, true, false, List, [], ◌∷◌}
+use Rattle.std.specs.Prelude.{Option, Some, None, ℕ, true, false, List, [], ◌∷◌, leb}
 use Rattle.limits.specs.Limits.{integer_max}
 use Rattle.numbers.specs.Number.{digit}
 
--- where a value past the largest Integer is held
-abbrev pub held : ℕ
-held = integer_max + 1
+-- a whole number, up to the largest Integer
+unfoldable pub small : ℕ → Option ℕ
+small n = elim (leb n integer_max) [ true ↦ Some n | false ↦ None ]
 
 -- the digits that s begins with
 unfoldable pub leading : List ℕ → List ℕ

@@ -2,9 +2,10 @@
 // docs/FORMAT.md has the rule; specs/ has it as a definition.
 #![tactic(auto)]
 
-ghost use Rattle.std.specs.Prelude.{IfSome, ◌≡◌, ◌-◌, ◌+◌, ◌*◌, ◌≤◌, min};
-ghost use Rattle.numbers.specs.Number.{digit as digit_of, begins, digits, past_digits, past_fraction, past_sign, exponent, value_from, integer_of, number_of};
-ghost use Rattle.numbers.specs.Run.{held, leading};
+ghost use Rattle.std.specs.Prelude.{IfSome, ◌≡◌, ◌-◌, ◌+◌, ◌*◌, ◌≤◌};
+ghost use Rattle.std.specs.Option.{option_and_then};
+ghost use Rattle.numbers.specs.Number.{digit as digit_of, begins, digits, past_digits, past_fraction, past_sign, exponent, value_from, number_of};
+ghost use Rattle.numbers.specs.Run.{small, leading};
 
 use limits::INTEGER_MAX;
 
@@ -15,10 +16,10 @@ pub enum Number {
     Float,
 }
 
-// The digits that a spelling begins with: their value, and what follows them. A value past the largest Integer is held at one more than that.
+// The digits that a spelling begins with: their value, unless it is past the largest Integer, and what follows them.
 #[derive(Clone, Copy)]
 pub struct Run<'a> {
-    pub value: u64,
+    pub value: Option<u64>,
     pub rest: &'a [u8],
 }
 
@@ -30,23 +31,26 @@ fn digit(b: u8) -> bool
     b'0' <= b && b <= b'9'
 }
 
-// Answers the value with one more digit after those that spelled `value`.
-fn grown(value: u64, b: u8) -> u64
+// Answers the value with one more digit after those that spelled `value`, unless it is past the largest Integer.
+#[tactic(auto, unfolding(crate::specs::Run::small))]
+fn grown(value: Option<u64>, b: u8) -> Option<u64>
     requires { (48 ≤ b) × (b ≤ 57) }
-    ensures { result ≡ min (value * 10 + (b - 48)) held }
+    ensures { result ≡ option_and_then (λ n. small (n * 10 + (b - 48))) value }
 {
-    value
-        .saturating_mul(10)
-        .saturating_add(u64::from(b - b'0'))
-        .min(INTEGER_MAX + 1)
+    let more = value?.checked_mul(10)?.checked_add(u64::from(b - b'0'))?;
+    if more <= INTEGER_MAX {
+        Some(more)
+    } else {
+        None
+    }
 }
 
-// Reads the digits that a spelling begins with, perhaps none.
+// Reads the digits that a spelling begins with, perhaps none. It goes by what is left: the run ends where the digits end.
 fn digits(s: &[u8]) -> Run
-    ensures value { result.value ≡ min (value_from 0 (leading s.now)) held }
+    ensures value { result.value ≡ small (value_from 0 (leading s.now)) }
     ensures rest { result.rest.now ≡ past_digits s.now }
 {
-    let mut value = 0;
+    let mut value = Some(0);
     let mut rest = s;
     while let [b, after @ ..] = rest {
         if !digit(*b) {
@@ -111,18 +115,6 @@ fn exponent(s: &[u8]) -> bool
     }
 }
 
-// Answers what digits only are: an Integer, if the value was not held.
-#[tactic(auto, unfolding(crate::specs::Number::integer_of))]
-fn integer(value: u64) -> Option<Number>
-    ensures { result ≡ integer_of value }
-{
-    if value <= INTEGER_MAX {
-        Some(Number::Integer(value))
-    } else {
-        None
-    }
-}
-
 // Answers the number that a spelling is, if it is one.
 #[tactic(auto, unfolding(crate::specs::Number::number_of, crate::specs::Number::digits, crate::specs::Number::ended))]
 pub fn number_of(s: &[u8]) -> Option<Number>
@@ -133,7 +125,7 @@ pub fn number_of(s: &[u8]) -> Option<Number>
     }
     let run = digits(s);
     if run.rest.is_empty() {
-        return integer(run.value);
+        return Some(Number::Integer(run.value?));
     }
     if exponent(past_fraction(run.rest)) {
         Some(Number::Float)
@@ -150,12 +142,5 @@ pub fn digits_only(s: &[u8]) -> Option<u64>
         return None;
     }
     let run = digits(s);
-    if !run.rest.is_empty() {
-        return None;
-    }
-    if run.value <= INTEGER_MAX {
-        Some(run.value)
-    } else {
-        None
-    }
+    if run.rest.is_empty() { run.value } else { None }
 }

@@ -9,9 +9,9 @@ ghost use Rattle.operators.specs.Operator.{infix_of, right_minimum, prefix_of, p
 use syntax::kind as row;
 use tokens::kind;
 
-// Answers the precedence of an infix operator, and 0 for any other kind: a number and no Option, since a request for a quicker look-up leaves the
-// promise and the callers word for word. The compiler makes shorter code of these tests than of a `match`, and here and in `infix_row` of one kind
-// a test than of kinds joined: a filter took a twentieth longer.
+// Answers the precedence of an infix operator, and 0 for any other kind: a number and no Option, since `infix_of` of specs/ has 0 there, and this promise and
+// its callers stay word for word when a quicker look-up takes the place of this body. The compiler makes shorter code of these tests than of a `match`,
+// and of one test for each kind than of kinds joined: joined, a filter took a twentieth longer.
 #[tactic(auto, unfolding(crate::specs::Operator::infix_of, crate::specs::Operator::among))]
 pub fn infix_precedence(k: u32) -> u32
     ensures { result ≡ (infix_of k).precedence }
@@ -93,7 +93,7 @@ pub fn infix_row(k: u32) -> u64
     }
 }
 
-// Answers the precedence of a prefix operator, and 0 for any other kind, as for an infix one.
+// Answers the precedence of a prefix operator, and 0 for any other kind, as `prefix_of` of specs/ has it.
 #[tactic(auto, unfolding(crate::specs::Operator::prefix_of, crate::specs::Operator::among))]
 pub fn prefix_precedence(k: u32) -> u32
     ensures { result ≡ (prefix_of k).precedence }
@@ -106,7 +106,7 @@ pub fn prefix_precedence(k: u32) -> u32
     }
 }
 
-// Answers the kind of a prefix operator's row, and 0 for any other kind, as for an infix one.
+// Answers the kind of a prefix operator's row, and 0 for any other kind, as `prefix_of` of specs/ has it.
 #[tactic(auto, unfolding(crate::specs::Operator::prefix_of, crate::specs::Operator::among))]
 pub fn prefix_row(k: u32) -> u64
     ensures { result ≡ (prefix_of k).row }
@@ -119,7 +119,7 @@ pub fn prefix_row(k: u32) -> u64
     }
 }
 
-// Answers the precedence of a postfix operator, and 0 for any other kind, as for an infix one.
+// Answers the precedence of a postfix operator, and 0 for any other kind, as `postfix_of` of specs/ has it.
 #[tactic(auto, unfolding(crate::specs::Operator::postfix_of, crate::specs::Operator::among))]
 pub fn postfix_precedence(k: u32) -> u32
     ensures { result ≡ postfix_of k }

@@ -48,7 +48,7 @@ pub fn postfix_at(tokens: &[u32], at: usize, min: u32) -> bool
     operators::binds(operators::postfix_precedence(kind_at(tokens, at)), min)
 }
 
-// Reads the postfix operators of at least `min`, while there are any.
+// Reads the postfix operators of at least `min`, while there are any. It goes by a cursor, as `infixes` of `reader` does, which says why these are two.
 #[tactic(auto, using(grammar::proofs::RuleCases::loop_cases), unfolding(grammar::specs::Memory::postfixes))]
 pub fn postfixes(
     tokens: &[u32],

@@ -38,7 +38,7 @@ pub fn count(tokens: &[u32]) -> usize
 fn token_at(tokens: &[u32], n: usize) -> Token
     ensures { result ≡ token_at tokens.now n }
 {
-    if n < tokens.len() / WIDTH {
+    if n < count(tokens) {
         let at = n * WIDTH;
         Token {
             kind: tokens[at],
@@ -54,12 +54,12 @@ fn token_at(tokens: &[u32], n: usize) -> Token
     }
 }
 
-// Answers the kind of token n, and 0 where there is none: all that a reader looks at on its way.
+// Answers the kind of token n, and 0 where there is none, as `Token` has it: all that a reader looks at on its way.
 #[tactic(auto, unfolding(crate::specs::Token::kind_at, crate::specs::Token::token_at))]
 pub fn kind_at(tokens: &[u32], n: usize) -> u32
     ensures { result ≡ kind_at tokens.now n }
 {
-    if n < tokens.len() / WIDTH {
+    if n < count(tokens) {
         tokens[n * WIDTH]
     } else {
         0
@@ -71,7 +71,7 @@ pub fn kind_at(tokens: &[u32], n: usize) -> u32
 fn known(kind: u32) -> bool
     ensures { result ≡ known_of kind }
 {
-    1 <= kind && kind <= kind::LAST
+    matches!(kind, 1..=kind::LAST)
 }
 
 // Tells if a token's span lies in the text. The sum of two 32-bit numbers cannot wrap here.
@@ -95,7 +95,7 @@ fn token_good(text: &[u8], tokens: &[u32], n: usize) -> bool
 fn check_tokens(text: &[u8], tokens: &[u32]) -> Result<usize, Refused>
     ensures { result ≡ check_from text.now tokens.now 0 (token_count tokens.now) }
 {
-    let whole = tokens.len() / WIDTH;
+    let whole = count(tokens);
     for n in 0..whole {
         if !token_good(text, tokens, n) {
             return Err(Refusal::BadTable.at(n));
@@ -109,11 +109,8 @@ fn check_tokens(text: &[u8], tokens: &[u32]) -> Result<usize, Refused>
 pub fn check_table(text: &[u8], tokens: &[u32]) -> Result<usize, Refused>
     ensures { result ≡ check_table text.now tokens.now }
 {
-    let whole = tokens.len() / WIDTH;
-    if TEXT_MAX < text.len() {
-        return Err(Refusal::TooLong.at(0));
-    }
-    if TOKENS_MAX < whole {
+    let whole = count(tokens);
+    if TEXT_MAX < text.len() || TOKENS_MAX < whole {
         return Err(Refusal::TooLong.at(0));
     }
     if tokens.len() % WIDTH != 0 {
@@ -122,7 +119,7 @@ pub fn check_table(text: &[u8], tokens: &[u32]) -> Result<usize, Refused>
     check_tokens(text, tokens)
 }
 
-// Finds where the bytes of token n lie in the text.
+// Finds where the bytes of token n lie in the text. Of no token that is the empty part and no None, here and in `spelled`: so FORMAT §2.6 has it.
 #[tactic(auto, unfolding(crate::specs::Token::span_at, crate::specs::Token::span_of))]
 pub fn span_at(text: &[u8], tokens: &[u32], n: usize) -> Span
     ensures { result ≡ span_at text.now tokens.now n }
