@@ -8,14 +8,13 @@ use mathlib.Core.List.{List, [], ◌∷◌, ◌++◌, append_assoc, append-nil}
 use native.Mathlib.Omega.{arith}
 use borrow.Author.Tests.{eq-eqb, ne_eqb}
 use lib.Dec.{eqb, eqb-suc-suc}
-use lib.ListN.{length, get_or, length-append}
-use Rattle.std.specs.Prelude.{Option, Some, None}
+use lib.ListN.{length, length-append}
+use Rattle.std.specs.Prelude.{Option, Some, None, slice_get}
 use Rattle.columns.specs.Lookup.{tests_column, all_test_column, looked_for, value_list, value_in, values_in}
 use Rattle.columns.specs.Lookup.{ClauseLookup, on, none, lookup_on, lookup_from, lookup_in}
 use Rattle.columns.specs.Partial.{column_value, with_value, with_test, with_tests, value_count}
 use Rattle.columns.specs.declared.test.Test.{Test}
 use Rattle.values.specs.declared.Value.{Value}
-use Rattle.values.specs.declared.Value.TheVariants.{Null}
 use Rattle.columns.specs.declared.partial.ColumnValue.{ColumnValue}
 use Rattle.columns.specs.declared.partial.PartialLookup.{PartialLookup}
 use Rattle.columns.specs.declared.partial.PartialLookup.TheVariants.{Empty, NotLookup, OnColumn}
@@ -37,7 +36,7 @@ value_counts_one n g (Some v) = omega arith
 test_counts_one : (n : ℕ) (g : PartialLookup) (t : Option Test) → value_count (with_test n g t) ≤ value_count g + 1
 unfolding with_test value_count
 test_counts_one n g None = omega arith
-test_counts_one n Empty (Some t) = value_counts_one n (column_value t.column 0 Null) (looked_for t.condition)
+test_counts_one n Empty (Some t) = value_counts_one n (column_value t.column 0 None) (looked_for t.condition)
 test_counts_one n NotLookup (Some t) = omega arith
 test_counts_one n (OnColumn g) (Some t) = by (eqb g.column t.column)
   where
@@ -54,11 +53,11 @@ tests_count n g (t ∷ ts) = omega (arith, test_counts_one n g t, tests_count n 
 
 -- a lookup whose values so far are vs
 abbrev so_far : ℕ → ℕ → List Value → ColumnValue
-so_far n c vs = column_value c (length vs) (get_or vs n Null)
+so_far n c vs = column_value c (length vs) (slice_get vs n)
 
 -- value number n after one more
 wanted_appended : (vs : List Value) (u : Value) (n : ℕ) →
-    elim (eqb (length vs) n) as (λ x. Value) [ true ↦ u | false ↦ get_or vs n Null ] ≡ get_or (vs ++ (u ∷ [])) n Null
+    elim (eqb (length vs) n) as (λ x. Option Value) [ true ↦ Some u | false ↦ slice_get vs n ] ≡ slice_get (vs ++ (u ∷ [])) n
 wanted_appended [] u zero = refl
 wanted_appended [] u (suc n) = rw (ne_eqb 0 (suc n) (λ e. omega arith))
 wanted_appended (v ∷ vs) u zero = rw (ne_eqb (suc (length vs)) 0 (λ e. omega arith))

@@ -10,12 +10,12 @@ use crate::test::{Test, test_at};
 use cnf::SignedRow;
 use values::Value;
 
-// A lookup on a column: how many values it has, and the wanted one if there are so many.
+// A lookup on a column: how many values it has, and the wanted one, if there are so many.
 #[derive(Clone, Copy)]
 pub struct ColumnValue {
     pub column: usize,
     pub values: usize,
-    pub value: Value,
+    pub value: Option<Value>,
 }
 
 // What the literals so far make: there are none yet; they are no lookup; or they are one on a column. These are three cases, where an Option has two.
@@ -33,13 +33,13 @@ impl ColumnValue {
         requires { self.values ≤ literals_max }
         ensures { result ≡ with_value wanted self found }
     {
-        let Some(value) = found else {
+        if found.is_none() {
             return self;
-        };
+        }
         ColumnValue {
             values: self.values + 1,
             value: if self.values == wanted {
-                value
+                found
             } else {
                 self.value
             },
@@ -59,7 +59,7 @@ impl PartialLookup {
             PartialLookup::Empty => ColumnValue {
                 column: test.column,
                 values: 0,
-                value: Value::Null,
+                value: None,
             },
             PartialLookup::OnColumn(so_far) if so_far.column == test.column => so_far,
             _ => return PartialLookup::NotLookup,

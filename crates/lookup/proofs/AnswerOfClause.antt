@@ -5,10 +5,11 @@ use Prim.Native.Nat.{ℕ, ◌+◌, ◌≤◌, ◌<◌}
 use mathlib.Core.Bool.{Bool, true, false, ◌||◌}
 use mathlib.Core.List.{List, [], ◌∷◌, map}
 use native.Mathlib.Omega.{arith}
-use borrow.Author.Tests.{lt-ltb, le-ltb, ltb-false}
+use borrow.Author.Tests.{lt-ltb, le-ltb, ltb-true, ltb-false}
 use lib.Dec.{ltb}
 use lib.ListN.{length, get_or}
-use Rattle.std.specs.Prelude.{Option, Some, None, Ok, Err}
+use Rattle.std.specs.Prelude.{Option, Some, None, Ok, Err, slice_get, ok_or}
+use Rattle.std.proofs.lemmas.Option.{slice_get-get_or, slice_get_past}
 use Rattle.limits.specs.Limits.{rows_max, clauses_max, literals_max}
 use Rattle.refusals.specs.Refusal.{refused as refusal_at}
 use Rattle.refusals.specs.declared.Refusal.{Refusal}
@@ -115,21 +116,16 @@ module _ (n : ℕ) where
   looked_up_refused (on_column c vs) f = let z : ◌≡◌ {A = ℕ} 0 1 = cc in absurd (omega arith)
   looked_up_refused (refuse why place) f = cc
 
-  pub found_at : (x : Lookup) {v : ColumnValue} → answer_of n x ≡ Ok v → n < v.values → Ok v.value ≡ found_of x n
+  pub found_on : (x : Lookup) {v : ColumnValue} → answer_of n x ≡ Ok v → ok_or v.value (refusal_at refusal.NoSuch 0) ≡ found_of x n
   unfolding answer_of found_of
-  found_at (on_column c vs) {v} e lt =
-      let it : record { column = c; values = length vs; value = get_or vs n Null } ≡ v = cc in
-      let long : length vs ≡ v.values = ap (λ (w : ColumnValue). w.values) it in
-      ap Ok (sym (ap (λ (w : ColumnValue). w.value) it)) ∙ sym (rw (lt-ltb n (length vs) (omega arith), found_of))
-  found_at (refuse why place) e lt = let z : ◌≡◌ {A = ℕ} 0 1 = cc in absurd (omega arith)
-
-  pub found_none : (x : Lookup) {v : ColumnValue} → answer_of n x ≡ Ok v → v.values ≤ n → Err (refusal_at refusal.NoSuch 0) ≡ found_of x n
-  unfolding answer_of found_of
-  found_none (on_column c vs) {v} e le =
-      let it : record { column = c; values = length vs; value = get_or vs n Null } ≡ v = cc in
-      let long : length vs ≡ v.values = ap (λ (w : ColumnValue). w.values) it in
-      sym (rw (le-ltb n (length vs) (omega arith), found_of))
-  found_none (refuse why place) e le = let z : ◌≡◌ {A = ℕ} 0 1 = cc in absurd (omega arith)
+  found_on (on_column c vs) {v} e =
+      let it : record { column = c; values = length vs; value = slice_get vs n } ≡ v = cc in
+      ap (λ (w : ColumnValue). ok_or w.value (refusal_at refusal.NoSuch 0)) (sym it) ∙ by (ltb n (length vs)) refl
+    where
+      by : (b : Bool) → ltb n (length vs) ≡ b → ok_or (slice_get vs n) (refusal_at refusal.NoSuch 0) ≡ found_of (on_column c vs) n
+      by true f = rw (f, slice_get-get_or vs n Null (ltb-true n (length vs) f), found_of)
+      by false f = rw (f, slice_get_past vs n (ltb-false n (length vs) f), found_of)
+  found_on (refuse why place) e = let z : ◌≡◌ {A = ℕ} 0 1 = cc in absurd (omega arith)
 
   pub found_refused : (x : Lookup) {e : Refused} → answer_of n x ≡ Err e → Err e ≡ found_of x n
   unfolding answer_of found_of

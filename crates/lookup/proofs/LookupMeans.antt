@@ -27,7 +27,7 @@ use Rattle.lookup.specs.Answer.{column_lookup, looked_up_of, found_of, handed, h
 use Rattle.lookup.specs.Answer.{looked_up_numbers, found_numbers, lookup_numbers, value_numbers, LooksUp, FindsValue}
 use Rattle.lookup.specs.declared.ColumnLookup.{ColumnLookup}
 use Rattle.lookup.proofs.LookupMatches.{lookup_matches}
-use Rattle.lookup.proofs.AnswerOfClause.{looked_up_on, looked_up_refused, found_at, found_none, found_refused}
+use Rattle.lookup.proofs.AnswerOfClause.{looked_up_on, looked_up_refused, found_refused}
 
 -- ---- the numbers of an answer
 
@@ -110,4 +110,4 @@ looks_up text rows k {v} e =
 
 pub ruleset looking_up = (looks_up, looked_up_on, looked_up_refused)
 
-pub ruleset finding = (finds_value, found_at, found_none, found_refused)
+pub ruleset finding = (finds_value, found_refused)

@@ -1,6 +1,6 @@
 -- What the functions that answer a question promise each other: a clause is found by its number, from the counts of every row, and its literals make the
 -- lookup. No entry's promise names this file.
-use Rattle.std.specs.Prelude.{Result, Ok, Err, ◌≡◌, ℕ, ◌+◌, ◌-◌, ◌*◌, ◌<◌, ◌≤◌, min, Bool, true, false, List, [], map, length, get_or, ltb}
+use Rattle.std.specs.Prelude.{Result, Ok, Err, ◌≡◌, ℕ, ◌+◌, ◌-◌, ◌*◌, ◌<◌, ◌≤◌, min, Bool, true, false, List, [], map, length, get_or, slice_get, ltb}
 use Rattle.limits.specs.Limits.{rows_max, clauses_max, literals_max, clauses_held}
 use Rattle.refusals.specs.Refusal.{refused}
 use Rattle.refusals.specs.declared.Refusal.TheVariants as refusal
@@ -9,7 +9,6 @@ use Rattle.predicate.specs.Tree.{Sound}
 use Rattle.cnf.specs.Clause.{total}
 use Rattle.cnf.specs.Source.{clauses_at, signed}
 use Rattle.cnf.specs.declared.SignedRow.{SignedRow}
-use Rattle.values.specs.declared.Value.TheVariants.{Null}
 use Rattle.columns.specs.Lookup.{literal_test}
 use Rattle.columns.specs.Partial.{column_value, with_tests, value_count}
 use Rattle.columns.specs.declared.partial.ColumnValue.{ColumnValue}
@@ -83,7 +82,7 @@ clause_of_two x y many k = elim (ltb k many) [ true ↦ row_clause x k | false �
 
 -- a question's answer with value number n, if there are so many
 unfoldable pub answer_of : ℕ → Lookup → Result ColumnValue Refused
-answer_of n (on_column c vs) = Ok (column_value c (length vs) (get_or vs n Null))
+answer_of n (on_column c vs) = Ok (column_value c (length vs) (slice_get vs n))
 answer_of n (refuse why place) = Err (refused why place)
 
 -- what the literals of a whole clause make, as that

@@ -129,9 +129,5 @@ pub fn value_at(text: &[u8], rows: &[u64], clause: usize, wanted: usize) -> Resu
     ensures { FindsValue text.now rows.now clause wanted result }
 {
     let found = lookup_of(text, rows, clause, wanted)?;
-    if wanted < found.values {
-        Ok(found.value)
-    } else {
-        Err(Refusal::NoSuch.at(0))
-    }
+    found.value.ok_or(Refusal::NoSuch.at(0))
 }
