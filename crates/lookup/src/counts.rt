@@ -34,9 +34,9 @@ impl ClauseCounts {
         ensures { result ≡ count_when self negated }
     {
         if negated {
-            self.negated as usize
+            usize::from(self.negated)
         } else {
-            self.plain as usize
+            usize::from(self.plain)
         }
     }
 
@@ -55,8 +55,8 @@ impl ClauseCounts {
         ensures { result ≡ both_counts self right }
     {
         ClauseCounts {
-            plain: hold(self.plain as u32 + right.plain as u32),
-            negated: hold(self.negated as u32 * right.negated as u32),
+            plain: hold(u32::from(self.plain) + u32::from(right.plain)),
+            negated: hold(u32::from(self.negated) * u32::from(right.negated)),
         }
     }
 }

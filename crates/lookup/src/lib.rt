@@ -84,9 +84,7 @@ fn lookup_at(rows: &[u64], from: RowClause, wanted: usize) -> Result<ColumnValue
     requires { Sound rows.now from.at.row × (from.at.row < rows_max) }
     ensures { result ≡ answer_of wanted (lookup_among (clauses_at rows.now from.at) from.clause) }
 {
-    let Some(size) = cnf::count_clauses(rows, from.at) else {
-        return Err(Refusal::TooMany.at(0));
-    };
+    let size = cnf::count_clauses(rows, from.at).ok_or(Refusal::TooMany.at(0))?;
     if size.clauses as usize <= from.clause {
         return Err(Refusal::NoSuch.at(0));
     }
