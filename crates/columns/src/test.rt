@@ -50,7 +50,7 @@ fn is_column(leaf: Row) -> bool
 fn is_constant(leaf: Row) -> bool
     ensures { result ≡ is_constant (leaf_label leaf) }
 {
-    kind::NULL <= leaf.kind && leaf.kind <= kind::STRING
+    matches!(leaf.kind, kind::NULL..=kind::STRING)
 }
 
 // Answers the row of a column or a constant, which has no operands. `Sound` stays a `requires` here and in `partial`, as in crate `predicate`.
