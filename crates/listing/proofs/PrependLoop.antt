@@ -22,6 +22,7 @@ use Rattle.cnf.specs.declared.SignedRow.{SignedRow}
 use Rattle.cnf.specs.declared.Source.{Source}
 use Rattle.cnf.specs.declared.Source.TheVariants.{Atom, Joined}
 use Rattle.listing.specs.declared.Run.{Run}
+use Rattle.listing.specs.declared.Cell.{Cell}
 use Rattle.cnf.proofs.Sizes.{clauses_some}
 use Rattle.cnf.proofs.Sources.{SourceIs, source_is, literal_number_at}
 use Rattle.listing.proofs.PrependedClauses.{atom_prepended, append_saved, append_right, append_room, append_left, append_done, cross_right}
@@ -58,16 +59,16 @@ none_copied {d} {e} {from} {to} s z = ext_get_or 0 e d s.long (λ i h. go i (dec
     go i (yes q) = s.before i q
     go i (no q) = s.after i (omega arith)
 
-room_as : {xs : List (List Literal)} {v a b : List ℕ} {spare i j m k n : ℕ} → a ≡ b → i ≡ j → m ≡ k → RoomToPrepend v b spare j k n xs
+room_as : {xs : List (List Literal)} {v : List Cell} {a b : List ℕ} {spare i j m k n : ℕ} → a ≡ b → i ≡ j → m ≡ k → RoomToPrepend v b spare j k n xs
     → RoomToPrepend v a spare i m n xs
 room_as e f g h = rw (e, f, g) h
 
-prepended_as : {xs : List (List Literal)} {u v a b d : List ℕ} {i j m k x y n : ℕ} {p : Frontier} → a ≡ b → i ≡ j → m ≡ k → x ≡ y
+prepended_as : {xs : List (List Literal)} {u v : List Cell} {a b d : List ℕ} {i j m k x y n : ℕ} {p : Frontier} → a ≡ b → i ≡ j → m ≡ k → x ≡ y
     → ClausesPrepended xs u v a d i m x n p → ClausesPrepended xs u v b d j k y n p
 prepended_as e f g h q = rw (← e, ← f, ← g, ← h) q
 
-module _ {cs : List (List Literal)} (xs ys : List (List Literal)) (px : 0 < length xs) (py : 0 < length ys) {u d : List ℕ} {spare first each n : ℕ}
-    (f : RoomToPrepend u d spare first each n cs) (kept : ℕ) where
+module _ {cs : List (List Literal)} (xs ys : List (List Literal)) (px : 0 < length xs) (py : 0 < length ys) {u : List Cell} {d : List ℕ}
+    {spare first each n : ℕ} (f : RoomToPrepend u d spare first each n cs) (kept : ℕ) where
   room_to_keep : (o : Bool) → cs ≡ join o xs ys → KeptFor o each kept → (first + kept ≤ length d) × (spare + kept ≤ length d)
   room_to_keep true c w = (omega (arith, f.heads.within, w), omega (arith, f.heads.within, f.space, w))
   room_to_keep false c w = (omega (arith, f.heads.within, w), omega (arith, append_saved xs ys c px py f, f.heads.within, w))
@@ -85,7 +86,7 @@ module _ {cs : List (List Literal)} (xs ys : List (List Literal)) (px : 0 < leng
     right_join false c w = subst (λ (k : ℕ). RoomToPrepend u d' (spare + k) first each n ys) (sym w) (append_right xs ys c px py f (all_kept w))
 
     -- the right list's clauses are prepended
-    module _ {v e : List ℕ} {p : Frontier} (q : ClausesPrepended ys u v d' e (spare + kept) first each n p) where
+    module _ {v : List Cell} {e : List ℕ} {p : Frontier} (q : ClausesPrepended ys u v d' e (spare + kept) first each n p) where
       right_crosswise : kept ≡ 0 → ClausesPrepended ys u v d e spare first each n p
       right_crosswise w = prepended_as (none_kept w) (omega (arith, w)) refl refl q
 
@@ -109,7 +110,7 @@ module _ {cs : List (List Literal)} (xs ys : List (List Literal)) (px : 0 < leng
             room_as refl (omega (arith, w)) (omega (arith, w, a)) (append_left xs ys c px py f (all_kept w) (right_appended w) z)
 
         done_join : (o : Bool) → cs ≡ join o xs ys → KeptFor o each kept → LeftFor o (first + each) (p.first - kept) kept each'
-            → {w x : List ℕ} {z : Frontier} → ClausesPrepended xs v w e' x spare (p.first - kept) each' p.free z
+            → {w : List Cell} {x : List ℕ} {z : Frontier} → ClausesPrepended xs v w e' x spare (p.first - kept) each' p.free z
             → ClausesPrepended cs u w d x spare first each n z
         done_join true c w a t =
             cross_done xs ys c px f (right_crosswise w) (prepended_as (none_copied b w) refl (omega (arith, w)) (omega (arith, w, a)) t)
@@ -120,34 +121,34 @@ module _ {cs : List (List Literal)} (xs ys : List (List Literal)) (px : 0 < leng
 -- ---- the loop
 
 -- the heads that there were are `start`, and those that there are now are `run`; the cells from `used` on were free, and those from `free` on are now
-pub record PrependsLeft (l u v d e : List ℕ) (spare : ℕ) (start run : Run) (used free : ℕ) (root r : SignedRow) : Type 0 where
+pub record PrependsLeft (l : List ℕ) (u v : List Cell) (d e : List ℕ) (spare : ℕ) (start run : Run) (used free : ℕ) (root r : SignedRow) : Type 0 where
   pub sound : Sound l r.row
   pub under : r.row ≤ root.row
   pub fits : RoomToPrepend v e spare run.first run.each free (clauses_at l r)
-  pub done : {w b : List ℕ} {z : Frontier} → ClausesPrepended (clauses_at l r) v w e b spare run.first run.each free z
+  pub done : {w : List Cell} {b : List ℕ} {z : Frontier} → ClausesPrepended (clauses_at l r) v w e b spare run.first run.each free z
       → ClausesPrepended (clauses_at l root) u w d b spare start.first start.each used z
   pub cells : length v ≡ length u
   pub heads : length e ≡ length d
 
 -- an atom
-module _ {l u v d e : List ℕ} {spare : ℕ} {start run : Run} {used free : ℕ} {root r atom : SignedRow} {w : Source} (low : root.row < rows_max)
-    (p : PrependsLeft l u v d e spare start run used free root r) (i : w ≡ source_at l r) (c : w ≡ Atom atom) where
+module _ {l : List ℕ} {u v : List Cell} {d e : List ℕ} {spare : ℕ} {start run : Run} {used free : ℕ} {root r atom : SignedRow} {w : Source}
+    (low : root.row < rows_max) (p : PrependsLeft l u v d e spare start run used free root r) (i : w ≡ source_at l r) (c : w ≡ Atom atom) where
   one : SourceIs l r (Atom atom)
   one = source_is r p.sound i c
 
   pub atom_low : atom.row < rows_max
   atom_low = omega (arith, one.0, p.under)
 
-  pub atom_asks : CellsMade v free × HeadsAt e free run.first run.each × (2 * (free + run.each) ≤ length v)
+  pub atom_asks : CellsMade v free × HeadsAt e free run.first run.each × (free + run.each ≤ length v)
   atom_asks = let y = subst (RoomToPrepend v e spare run.first run.each free) one.1 p.fits in (y.cells, y.heads, omega (arith, y.room))
 
-  pub atom_done : {x b : List ℕ} {n m : ℕ} → n ≡ 2 * atom.row + bit atom.negated → Prepended n v x e b run.first run.each free m
+  pub atom_done : {x : List Cell} {b : List ℕ} {n m : ℕ} → n ≡ 2 * atom.row + bit atom.negated → Prepended n v x e b run.first run.each free m
       → ClausesPrepended (clauses_at l root) u x d b spare start.first start.each used (record { free = m; first = run.first })
   atom_done y t =
       p.done (atom_prepended (literal atom.negated (tree_at l atom.row)) one.1 (y ∙ sym (literal_number_at l atom.row atom.negated)) t p.fits)
 
 -- two operands
-module _ {l u v d e : List ℕ} {spare : ℕ} {start run : Run} {used free : ℕ} {root r left right : SignedRow} {o : Bool} {w : Source}
+module _ {l : List ℕ} {u v : List Cell} {d e : List ℕ} {spare : ℕ} {start run : Run} {used free : ℕ} {root r left right : SignedRow} {o : Bool} {w : Source}
     (low : root.row < rows_max) (p : PrependsLeft l u v d e spare start run used free root r) (i : w ≡ source_at l r) (c : w ≡ Joined left right o) where
   two : SourceIs l r (Joined left right o)
   two = source_is r p.sound i c
@@ -177,7 +178,8 @@ module _ {l u v d e : List ℕ} {spare : ℕ} {start run : Run} {used free : ℕ
         ),
       )
 
-      module _ {v₁ e₂ : List ℕ} {t : Frontier} (q : ClausesPrepended (clauses_at l right) v v₁ e₁ e₂ (spare + kept) run.first run.each free t) where
+      module _ {v₁ : List Cell} {e₂ : List ℕ} {t : Frontier}
+          (q : ClausesPrepended (clauses_at l right) v v₁ e₁ e₂ (spare + kept) run.first run.each free t) where
         pub restore_asks : (kept ≤ t.first) × (spare + kept ≤ length e₂) × (t.first - kept + kept ≤ length e₂)
         restore_asks = room_to_restore (clauses_at l left) (clauses_at l right) left_some right_some p.fits kept s q o two.2 k
 

@@ -13,13 +13,14 @@ use Rattle.cnf.specs.Clause.{Literal, literal_number, cross, total}
 use Rattle.listing.specs.Chain.{chain_of, CellsMade, ChainsSpell}
 use Rattle.listing.specs.Heads.{Prepended, Copied}
 use Rattle.listing.specs.Listing.{RoomToPrepend, ClausesPrepended, Frontier}
+use Rattle.listing.specs.declared.Cell.{Cell}
 use Rattle.cnf.proofs.Crossing.{get_before, cross_append, cross_cross, cross_one}
 use Rattle.cnf.proofs.Sizes.{length_cross, total_append, total_cross}
 use Rattle.listing.proofs.Chains.{chain_step, chain_unchanged, prepended_cells}
 
 -- ---- an atom
 
-pub atom_prepended : (x : Literal) {cs : List (List Literal)} {n' : ℕ} {u v d e : List ℕ} {spare first each n m : ℕ}
+pub atom_prepended : (x : Literal) {cs : List (List Literal)} {n' : ℕ} {u v : List Cell} {d e : List ℕ} {spare first each n m : ℕ}
     → cs ≡ (x ∷ []) ∷ [] → n' ≡ literal_number x
     → Prepended n' u v d e first each n m → RoomToPrepend u d spare first each n cs
     → ClausesPrepended cs u v d e spare first each n (record { free = m; first = first })
@@ -56,13 +57,15 @@ atom_prepended x {cs} {n'} {u} {v} {d} {e} {spare} {first} {each} {n} {m} c ex p
         let y : i < each = omega arith in
         ap (chain_of v) (p.heads i y)
         ∙ chain_step v (n + i) (λ k a b. made.falls k a (omega (arith, p.used))) (omega (arith, f.cells.some))
-        ∙ ap₂ (λ (z : ℕ) (t : List ℕ). z ∷ t) (p.here i y ∙ ex)
-        (ap (chain_of v) (p.next i y) ∙ chain_unchanged u v n (get_or d (first + i) 0) f.cells p.elsewhere.old (f.heads.below i y) ∙ o.chain i q)
+        ∙ ap₂ (λ (z : ℕ) (t : List ℕ). z ∷ t) (ap (λ (k : Cell). k.literal) (p.here i y) ∙ ex)
+        (ap (λ (k : Cell). chain_of v k.next) (p.here i y)
+        ∙ chain_unchanged u v n (get_or d (first + i) 0) f.cells p.elsewhere.old (f.heads.below i y)
+        ∙ o.chain i q)
 
 -- ---- one list after the other
 
 module _ {cs : List (List Literal)} (xs ys : List (List Literal)) (c : cs ≡ xs ++ ys) (px : 0 < length xs) (py : 0 < length ys)
-    {u d : List ℕ} {spare first each n : ℕ} (f : RoomToPrepend u d spare first each n cs) where
+    {u : List Cell} {d : List ℕ} {spare first each n : ℕ} (f : RoomToPrepend u d spare first each n cs) where
   all_literals : total cs * each ≡ total xs * each + total ys * each
   all_literals = ap (λ (k : ℕ). k * each) (ap total c ∙ total_append xs ys) ∙ omega arith
 
@@ -85,7 +88,7 @@ module _ {cs : List (List Literal)} (xs ys : List (List Literal)) (c : cs ≡ xs
       space = omega (arith, f.space, all_clauses, le-mul_of_pos_right each px);
     }
 
-    module _ {v e : List ℕ} {p : Frontier} (q : ClausesPrepended ys u v d' e (spare + each) first each n p) where
+    module _ {v : List Cell} {e : List ℕ} {p : Frontier} (q : ClausesPrepended ys u v d' e (spare + each) first each n p) where
       pub append_room : spare + each ≤ p.first
       append_room = omega (arith, q.end, f.space, all_clauses, le-mul_of_pos_right each px)
 
@@ -109,7 +112,7 @@ module _ {cs : List (List Literal)} (xs ys : List (List Literal)) (c : cs ≡ xs
           space = omega (arith, f.space, all_clauses, q.end, append_room);
         }
 
-        pub append_done : {w a : List ℕ} {z : Frontier} → ClausesPrepended xs v w e' a spare (p.first - each) each p.free z
+        pub append_done : {w : List Cell} {a : List ℕ} {z : Frontier} → ClausesPrepended xs v w e' a spare (p.first - each) each p.free z
             → ClausesPrepended cs u w d a spare first each n z
         append_done {w} {a} {z} r = record {
           end = omega (arith, r.end, q.end, all_clauses, append_room);
@@ -188,7 +191,7 @@ module _ {cs : List (List Literal)} (xs ys : List (List Literal)) (c : cs ≡ xs
 -- ---- each with each
 
 module _ {cs : List (List Literal)} (xs ys : List (List Literal)) (c : cs ≡ cross xs ys) (px : 0 < length xs)
-    {u d : List ℕ} {spare first each n : ℕ} (f : RoomToPrepend u d spare first each n cs) where
+    {u : List Cell} {d : List ℕ} {spare first each n : ℕ} (f : RoomToPrepend u d spare first each n cs) where
   every_literal : total cs * each ≡ total xs * (length ys * each) + length xs * (total ys * each)
   every_literal = ap (λ (k : ℕ). k * each) (ap total c ∙ total_cross xs ys) ∙ omega arith
 
@@ -203,7 +206,7 @@ module _ {cs : List (List Literal)} (xs ys : List (List Literal)) (c : cs ≡ cr
     space = omega (arith, f.space, every_clause, le-mul_of_pos_right (length ys * each) px);
   }
 
-  module _ {v e : List ℕ} {p : Frontier} (q : ClausesPrepended ys u v d e spare first each n p) where
+  module _ {v : List Cell} {e : List ℕ} {p : Frontier} (q : ClausesPrepended ys u v d e spare first each n p) where
     cross_each : first + each - p.first ≡ length ys * each
     cross_each = omega (arith, q.end)
 
@@ -215,7 +218,7 @@ module _ {cs : List (List Literal)} (xs ys : List (List Literal)) (c : cs ≡ cr
       space = omega (arith, f.space, every_clause, q.end);
     })
 
-    pub cross_done : {w a : List ℕ} {z : Frontier} → ClausesPrepended xs v w e a spare p.first (first + each - p.first) p.free z
+    pub cross_done : {w : List Cell} {a : List ℕ} {z : Frontier} → ClausesPrepended xs v w e a spare p.first (first + each - p.first) p.free z
         → ClausesPrepended cs u w d a spare first each n z
     cross_done {w} {a} {z} r' = record {
       end = omega (arith, r.end, q.end, every_clause);

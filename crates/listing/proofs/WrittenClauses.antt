@@ -2,7 +2,7 @@
 -- clauses are prepended (`room_to_prepend`, `chains_spell`), writes one clause a turn (`turn_followable`, `turn_room`, `turn_goes`) and leaves what
 -- stands after the written numbers (`all_written`).
 -- Assumes nothing.
-use Prim.Native.Nat.{ℕ, zero, suc, ◌+◌, ◌*◌, ◌-◌, ◌<◌, ◌≤◌}
+use Prim.Native.Nat.{ℕ, zero, suc, ◌+◌, ◌-◌, ◌<◌, ◌≤◌}
 use mathlib.Core.Path.{◌≡◌, refl, sym, ap, ap₂, ◌∙◌, subst}
 use mathlib.Core.List.{List, [], ◌∷◌, ◌++◌, map, append_assoc, append-nil}
 use native.Mathlib.Omega.{arith}
@@ -13,8 +13,9 @@ use lib.Seq.{sets, length-sets, take-suc, take-length, length-take-le, sets-eq, 
 use Rattle.rows.proofs.Laws.{sets_append}
 use Rattle.limits.specs.Limits.{literals_max}
 use Rattle.cnf.specs.Clause.{Literal, literal_number, total, literal_numbers, ends_from}
-use Rattle.listing.specs.Chain.{chain_of, free_of, CellsMade, ChainsSpell, Followable, Wrote}
+use Rattle.listing.specs.Chain.{cell, cell_at, chain_of, free_of, CellsMade, ChainsSpell, Followable, Wrote}
 use Rattle.listing.specs.Listing.{RoomToPrepend, ClausesPrepended, RoomToWrite, Written, Frontier}
+use Rattle.listing.specs.declared.Cell.{Cell}
 use Rattle.cnf.proofs.Crossing.{cross_end}
 use Rattle.cnf.proofs.Sizes.{total_append}
 use Rattle.listing.proofs.Chains.{chain_step, chain_none}
@@ -58,21 +59,21 @@ next_unchanged l vs k e h =
 -- ---- `write_chain`
 
 -- the chain from cell h on is left to be written from place `at` on, of the chain from `head` and place `start`
-pub record ChainLeft (u a b : List ℕ) (head start h at : ℕ) : Type 0 where
+pub record ChainLeft (u : List Cell) (a b : List ℕ) (head start h at : ℕ) : Type 0 where
   pub followable : Followable u h
   pub wrote : sets b at (chain_of u h) ≡ sets a start (chain_of u head)
   pub next : at + length (chain_of u h) ≡ start + length (chain_of u head)
   pub same : length b ≡ length a
 
-module _ {u a b : List ℕ} {head start h at : ℕ} (p : ChainLeft u a b head start h at) where
+module _ {u : List Cell} {a b : List ℕ} {head start h at : ℕ} (p : ChainLeft u a b head start h at) where
   module _ (q : 0 < h) where
-    step : chain_of u h ≡ get_or u (2 * h) 0 ∷ chain_of u (get_or u (2 * h + 1) 0)
+    step : chain_of u h ≡ (cell_at u h).literal ∷ chain_of u (cell_at u h).next
     step = chain_step u h p.followable.falls q
 
     pub chain_room : start + length (chain_of u head) ≤ length a → at < length b
     chain_room r = omega (arith, p.next, ap length step, p.same)
 
-    pub chain_goes : {x y : ℕ} → x ≡ get_or u (2 * h) 0 → y ≡ get_or u (2 * h + 1) 0 → ChainLeft u a (set b at x) head start y (at + 1)
+    pub chain_goes : {x y : ℕ} → x ≡ (cell_at u h).literal → y ≡ (cell_at u h).next → ChainLeft u a (set b at x) head start y (at + 1)
     chain_goes {x} {y} e f = record {
       followable = record {
         there = omega (arith, p.followable.falls h q (omega arith), p.followable.there);
@@ -80,7 +81,7 @@ module _ {u a b : List ℕ} {head start h at : ℕ} (p : ChainLeft u a b head st
       };
       wrote =
           ap (λ (k : ℕ). sets (set b at x) (at + 1) (chain_of u k)) f
-          ∙ ap₂ (λ (k : ℕ) (z : ℕ). sets (set b at z) k (chain_of u (get_or u (2 * h + 1) 0))) (add-one at) e
+          ∙ ap₂ (λ (k : ℕ) (z : ℕ). sets (set b at z) k (chain_of u (cell_at u h).next)) (add-one at) e
           ∙ ap (sets b at) (sym step)
           ∙ p.wrote;
       next = omega (arith, ap (λ (k : ℕ). length (chain_of u k)) f, p.next, ap length step);
@@ -96,42 +97,46 @@ module _ {u a b : List ℕ} {head start h at : ℕ} (p : ChainLeft u a b head st
 -- ---- `write_clauses`: what is prepended
 
 -- the chains of the n clauses cs can be written: their heads are the first of hs, and the literals and the ends fit the lists a and hs
-pub record ChainsReady (cs : List (List Literal)) (v a hs : List ℕ) (n : ℕ) : Type 0 where
+pub record ChainsReady (cs : List (List Literal)) (v : List Cell) (a hs : List ℕ) (n : ℕ) : Type 0 where
   pub all : n ≡ length cs
   pub free : ℕ
   pub cells : CellsMade v free
-  pub within : 2 * free ≤ length v
+  pub within : free ≤ length v
   pub below : (k : ℕ) → k < length cs → get_or hs k 0 < free
   pub spell : ChainsSpell v hs 0 cs
   pub literals : total cs ≤ length a
   pub ends : length cs ≤ length hs
   pub low : total cs ≤ literals_max
 
-module _ (cs : List (List Literal)) {u a d : List ℕ} (last : ℕ) (e : last + 1 ≡ length cs) (s : RoomToWrite u a d cs) where
-  -- the next free cell is the first
-  one_free : free_of (set u 0 1) ≡ 1
-  one_free = get_or-set_same u 0 1 0 (omega (arith, s.cells))
+module _ (cs : List (List Literal)) {u : List Cell} {a d : List ℕ} (last : ℕ) (e : last + 1 ≡ length cs) (s : RoomToWrite u a d cs) where
+  -- cell 0 says that the next free cell is the first
+  abbrev first : Cell
+  first = cell (cell_at u 0).literal 1
+
+  one_free : free_of (set u 0 first) ≡ 1
+  one_free = ap (λ (k : Cell). k.next) (get_or-set_same u 0 first (cell 0 0) (omega (arith, s.cells)))
 
   -- one head, of the empty chain
-  pub room_to_prepend : RoomToPrepend (set u 0 1) (set d last 0) 0 last 1 (free_of (set u 0 1)) cs
-  room_to_prepend = subst (λ (n : ℕ). RoomToPrepend (set u 0 1) (set d last 0) 0 last 1 n cs) (sym one_free) (record {
-    cells = record { some = omega arith; long = omega (arith, length-set u 0 1, s.long); falls = λ h a b. absurd (omega arith) };
+  pub room_to_prepend : RoomToPrepend (set u 0 first) (set d last 0) 0 last 1 (free_of (set u 0 first)) cs
+  room_to_prepend = subst (λ (n : ℕ). RoomToPrepend (set u 0 first) (set d last 0) 0 last 1 n cs) (sym one_free) (record {
+    cells = record { some = omega arith; long = omega (arith, length-set u 0 first, s.long); falls = λ h a b. absurd (omega arith) };
     heads = record {
       within = omega (arith, length-set d last 0, s.ends);
       below = λ i q.
           let y : last + i ≡ last = omega arith in
           omega (arith, ap (λ (j : ℕ). get_or (set d last 0) j 0) y, get_or-set_same d last 0 0 (omega (arith, s.ends)));
     };
-    room = omega (arith, s.cells, length-set u 0 1);
+    room = omega (arith, s.cells, length-set u 0 first);
     space = omega arith;
   })
 
-  module _ {v hs : List ℕ} {p : Frontier} (q' : ClausesPrepended cs (set u 0 1) v (set d last 0) hs 0 last 1 (free_of (set u 0 1)) p) where
-    q : ClausesPrepended cs (set u 0 1) v (set d last 0) hs 0 last 1 1 p
-    q = subst (λ (n : ℕ). ClausesPrepended cs (set u 0 1) v (set d last 0) hs 0 last 1 n p) one_free q'
+  module _ {v : List Cell} {hs : List ℕ} {p : Frontier}
+      (q' : ClausesPrepended cs (set u 0 first) v (set d last 0) hs 0 last 1 (free_of (set u 0 first)) p) where
+    q : ClausesPrepended cs (set u 0 first) v (set d last 0) hs 0 last 1 1 p
+    q = subst (λ (n : ℕ). ClausesPrepended cs (set u 0 first) v (set d last 0) hs 0 last 1 n p) one_free q'
 
-    cells_within : 2 * p.free ≤ length v
-    cells_within = omega (arith, q.used, q.elsewhere.cells, s.cells, length-set u 0 1)
+    cells_within : p.free ≤ length v
+    cells_within = omega (arith, q.used, q.elsewhere.cells, s.cells, length-set u 0 first)
 
     chains_spell : ChainsSpell v hs 0 cs
     chains_spell =
@@ -140,9 +145,9 @@ module _ (cs : List (List Literal)) {u a d : List ℕ} (last : ℕ) (e : last + 
           chain = λ i h.
               let y : i ≡ 0 = omega arith in
               let x : last + i ≡ last = omega arith in
-              ap (λ (j : ℕ). chain_of (set u 0 1) (get_or (set d last 0) j 0)) x
-              ∙ ap (chain_of (set u 0 1)) (get_or-set_same d last 0 0 (omega (arith, s.ends)))
-              ∙ chain_none (set u 0 1)
+              ap (λ (j : ℕ). chain_of (set u 0 first) (get_or (set d last 0) j 0)) x
+              ∙ ap (chain_of (set u 0 first)) (get_or-set_same d last 0 0 (omega (arith, s.ends)))
+              ∙ chain_none (set u 0 first)
               ∙ ap (λ (j : ℕ). map literal_number (get_or ([] ∷ []) j [])) (sym y);
         })))
 
@@ -192,7 +197,7 @@ module _ (cs : List (List Literal)) {a b hs e : List ℕ} {at k : ℕ} (p : Firs
   pub long_literals : length b ≡ length a
   long_literals = ap length p.literals ∙ length-sets a 0 (literal_numbers (take k cs))
 
-  module _ {u : List ℕ} {n : ℕ} (y : ChainsReady cs u a hs n) (less : k < n) {x : ℕ} (ex : x ≡ get_or e k 0) where
+  module _ {u : List Cell} {n : ℕ} (y : ChainsReady cs u a hs n) (less : k < n) {x : ℕ} (ex : x ≡ get_or e k 0) where
     h : k < length cs
     h = omega (arith, y.all)
 
@@ -243,8 +248,8 @@ module _ (cs : List (List Literal)) {a b hs e : List ℕ} {at k : ℕ} (p : Firs
               ∙ ap (sets hs 0) (sym (ends_append 0 (take k cs) (c ∷ [])) ∙ ap (ends_from 0) (sym t));
         }
 
-pub all_written : (cs : List (List Literal)) {a b d v hs e : List ℕ} {at k n : ℕ} → FirstWritten cs a b hs e at k → ChainsReady cs v a hs n → k ≡ n
-    → drop (length cs) hs ≡ drop (length cs) d → Written cs a b d e
+pub all_written : (cs : List (List Literal)) {a b d : List ℕ} {v : List Cell} {hs e : List ℕ} {at k n : ℕ} → FirstWritten cs a b hs e at k
+    → ChainsReady cs v a hs n → k ≡ n → drop (length cs) hs ≡ drop (length cs) d → Written cs a b d e
 all_written cs {a} {b} {d} {v} {hs} {e} {at} {k} p y z same =
     let t : take k cs ≡ cs = ap (λ (i : ℕ). take i cs) (z ∙ y.all) ∙ take-length cs in
     record {

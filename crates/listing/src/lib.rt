@@ -13,6 +13,14 @@ ghost use Rattle.listing.specs.Listing.{RoomToPrepend, frontier, ClausesPrepende
 
 use cnf::{SignedRow, Source, past_nots};
 
+// A literal of a clause, and the number of the cell after it in its chain. Cell 0 is no cell of a chain: as `next` it is the end, and its own `next` is the
+// number of the next free cell. No `Option`: a cell would be 6 bytes and not 4.
+#[derive(Clone, Copy)]
+pub struct Cell {
+    pub literal: u16,
+    pub next: u16,
+}
+
 // Where heads stand: the place of the first, and how many there are. No `Range`: it is not Copy, and each clause would subtract to say how many.
 #[derive(Clone, Copy)]
 pub struct Run {
@@ -30,22 +38,24 @@ pub fn literal_number(atom: SignedRow) -> u16
 }
 
 // Puts a cell with the literal x before each of the chains whose heads these are. By place: of elements that `iter_mut` lent a proof knows nothing after it.
-fn prepend(cells: &mut [u16], heads: &mut [u32], run: Run, x: u16)
+fn prepend(cells: &mut [Cell], heads: &mut [u32], run: Run, x: u16)
     requires { CellsMade cells.old (free_of cells.old)
         × HeadsAt heads.old (free_of cells.old) run.first run.each
-        × (2 * (free_of cells.old + run.each) ≤ length cells.old) }
+        × (free_of cells.old + run.each ≤ length cells.old) }
     ensures { Prepended x cells.old cells.new heads.old heads.new run.first run.each
         (free_of cells.old) (free_of cells.new) }
 {
-    let mut m = usize::from(cells[0]);
+    let mut m = usize::from(cells[0].next);
     for i in run.first..run.first + run.each {
         let h = heads[i];
-        cells[2 * m] = x;
-        cells[2 * m + 1] = h as u16;
+        cells[m] = Cell {
+            literal: x,
+            next: h as u16,
+        };
         heads[i] = m as u32;
         m += 1;
     }
-    cells[0] = m as u16;
+    cells[0].next = m as u16;
 }
 
 // Copies `each` heads from place `from` on to place `to` on. Most often that is one, or none, where lists are joined crosswise: then no call is made.
@@ -75,7 +85,7 @@ fn copy_some(heads: &mut [u32], from: usize, to: usize, each: usize)
 // joined crosswise, since these are then the heads of the right one's.
 fn prepend_clauses(
     rows: &[u64],
-    cells: &mut [u16],
+    cells: &mut [Cell],
     heads: &mut [u32],
     spare: usize,
     start: Run,
@@ -118,16 +128,16 @@ fn prepend_clauses(
 }
 
 // Writes the literals of a chain from place `start` on, and answers the place after them. It follows the chain, so no counted loop would do.
-fn write_chain(cells: &[u16], literals: &mut [u32], start: usize, head: usize) -> usize
+fn write_chain(cells: &[Cell], literals: &mut [u32], start: usize, head: usize) -> usize
     requires { Followable cells.now head × (start + length (chain_of cells.now head) ≤ length literals.old) }
     ensures { Wrote literals.old literals.new start result (chain_of cells.now head) }
 {
     let mut at = start;
     let mut h = head;
     while 0 < h {
-        literals[at] = u32::from(cells[2 * h]);
+        literals[at] = u32::from(cells[h].literal);
         at += 1;
-        h = usize::from(cells[2 * h + 1]);
+        h = usize::from(cells[h].next);
     }
     at
 }
@@ -136,7 +146,7 @@ fn write_chain(cells: &[u16], literals: &mut [u32], start: usize, head: usize) -
 // of it is written stay two parameters: callers lend longer lists, and `Written` says that the rest is as it was.
 pub fn write_clauses(
     rows: &[u64],
-    cells: &mut [u16],
+    cells: &mut [Cell],
     literals: &mut [u32],
     ends: &mut [u32],
     r: usize,
@@ -150,7 +160,7 @@ pub fn write_clauses(
 {
     let last = n - 1;
     ends[last] = 0;
-    cells[0] = 1;
+    cells[0].next = 1;
     let start = Run {
         first: last,
         each: 1,

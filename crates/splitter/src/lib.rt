@@ -8,13 +8,13 @@ ghost use Rattle.std.specs.Prelude.{◌≡◌, false, [], ◌∷◌, ◌+◌, �
 ghost use Rattle.limits.specs.Limits.{rows_max, clauses_max, literals_max};
 ghost use Rattle.predicate.specs.Tree.{Tree, root_of, tree_at, Sound};
 ghost use Rattle.cnf.specs.Clause.{literal, clauses, total};
-ghost use Rattle.listing.specs.Chain.{places_max};
+ghost use Rattle.listing.specs.Chain.{cells_max};
 ghost use Rattle.listing.specs.Listing.{Written};
 ghost use Rattle.splitter.specs.Split.{Gives, list_of, Splits};
 
 use cnf::{SignedRow, Size, Source, count_clauses, past_nots};
 use limits::LITERALS_MAX;
-use listing::{literal_number, write_clauses};
+use listing::{Cell, literal_number, write_clauses};
 use refusals::{Refusal, Refused};
 
 // How many clauses and literals were listed.
@@ -41,14 +41,14 @@ impl From<Size> for Listed {
 // The most literals for which the small table of cells suffices: clearing the large one costs more than most predicates.
 const FEW: usize = 256;
 
-// The places of a table of cells: two for each literal, and two for the cell that is none.
-const PLACES_OF_FEW: usize = 2 * (FEW + 1);
+// The cells of a table: one for each literal, and cell 0.
+const CELLS_OF_FEW: usize = FEW + 1;
 
-const PLACES_MAX: usize = 2 * (LITERALS_MAX as usize + 1);
+const CELLS_MAX: usize = LITERALS_MAX as usize + 1;
 
-// Writes the n clauses of row r by way of a table of cells with so many places. Never inlined: one table at a time stands on the stack.
+// Writes the n clauses of row r by way of a table of so many cells. Never inlined: one table at a time stands on the stack.
 #[inline(never)]
-fn write_with<const PLACES: usize>(
+fn write_with<const CELLS: usize>(
     rows: &[u64],
     literals: &mut [u32],
     ends: &mut [u32],
@@ -57,12 +57,15 @@ fn write_with<const PLACES: usize>(
 )
     requires { Sound rows.now r × (r < rows_max)
         × (n ≡ length (clauses false (tree_at rows.now r)))
-        × (2 * (1 + total (clauses false (tree_at rows.now r))) ≤ PLACES) × (PLACES ≤ places_max)
+        × (1 + total (clauses false (tree_at rows.now r)) ≤ CELLS) × (CELLS ≤ cells_max)
         × (total (clauses false (tree_at rows.now r)) ≤ length literals.old) × (n ≤ length ends.old) }
     ensures { Written (clauses false (tree_at rows.now r))
         literals.old literals.new ends.old ends.new }
 {
-    let mut cells = [0u16; PLACES];
+    let mut cells = [Cell {
+        literal: 0,
+        next: 0,
+    }; CELLS];
     write_clauses(rows, &mut cells, literals, ends, r, n);
 }
 
@@ -77,9 +80,9 @@ fn write_counted(rows: &[u64], literals: &mut [u32], ends: &mut [u32], r: usize,
         literals.old literals.new ends.old ends.new }
 {
     if listed.literals <= FEW {
-        write_with::<PLACES_OF_FEW>(rows, literals, ends, r, listed.clauses);
+        write_with::<CELLS_OF_FEW>(rows, literals, ends, r, listed.clauses);
     } else {
-        write_with::<PLACES_MAX>(rows, literals, ends, r, listed.clauses);
+        write_with::<CELLS_MAX>(rows, literals, ends, r, listed.clauses);
     }
 }
 
