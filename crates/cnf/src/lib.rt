@@ -26,7 +26,7 @@ pub struct Size {
     pub literals: u32,
 }
 
-// A row, read plainly or negated.
+// A row, read plainly or negated. Callers write a plain one out: were it made by a function, seven answers would first rewrite by what that answers.
 #[derive(Clone, Copy)]
 pub struct SignedRow {
     pub row: usize,
