@@ -3,7 +3,7 @@
 #![tactic(auto)]
 
 use cases::{print_wrong, show_case};
-use lines::input::LineReader;
+use lines::input::{LineReader, TooLong};
 use lines::scan::Words;
 use std::env::FillError;
 use std::fmt::Display;
@@ -27,13 +27,15 @@ fn show_line(out: &mut impl Write, line: &[u8], number: u64) -> io::Result<()> {
     writeln!(out)
 }
 
-// Shows a line of so many bytes, of which `line` has those that there are places for.
-fn show_read(out: &mut impl Write, line: &[u8], length: usize, number: u64) -> io::Result<()> {
-    if let Some(line) = line.get(..length) {
-        return show_line(out, line, number);
+// Shows a line, or says that it is too long.
+fn show_read(out: &mut impl Write, line: Result<&[u8], TooLong>, number: u64) -> io::Result<()> {
+    match line {
+        Ok(line) => show_line(out, line, number),
+        Err(TooLong) => {
+            print_wrong(out, number, "longer than 65536 bytes, and left out")?;
+            writeln!(out)
+        }
     }
-    print_wrong(out, number, "longer than 65536 bytes, and left out")?;
-    writeln!(out)
 }
 
 // Why the showing ended before the last line.
@@ -47,21 +49,25 @@ enum ShowError {
 fn show_all(
     lines: &mut LineReader<impl Read>,
     out: &mut impl Write,
-    line: &mut [u8],
+    places: &mut [u8],
 ) -> Result<(), ShowError> {
     for number in 1..=u64::MAX {
-        let Some(length) = lines.read_line(line).map_err(ShowError::Unreadable)? else {
+        let Some(line) = lines.read_line(places).map_err(ShowError::Unreadable)? else {
             break;
         };
-        show_read(out, line, length, number).map_err(ShowError::Unwritable)?;
+        show_read(out, line, number).map_err(ShowError::Unwritable)?;
     }
     Ok(())
 }
 
 // Shows every line, and says on standard error if a read or a write failed.
 fn show(rt: &(impl Print + Eprint), reader: impl Read + Drop, name: &str) -> ExitCode {
-    let mut line = [0u8; 65536];
-    match show_all(&mut LineReader::new(reader), &mut io::writer(rt), &mut line) {
+    let mut places = [0u8; 65536];
+    match show_all(
+        &mut LineReader::new(reader),
+        &mut io::writer(rt),
+        &mut places,
+    ) {
         Ok(()) => ExitCode::SUCCESS,
         Err(ShowError::Unreadable(why)) => fail(rt, name, why),
         Err(ShowError::Unwritable(why)) => fail(rt, "standard output", why),
