@@ -9,6 +9,7 @@ use std::rt::Files;
 use std::{fs, io};
 
 mod fields;
+mod lent;
 mod looking;
 mod reading;
 mod splitting;
