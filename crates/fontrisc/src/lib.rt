@@ -5,10 +5,20 @@
 #![tactic(auto)]
 
 ghost use Rattle.std.specs.Prelude.{◌≡◌};
+ghost use Rattle.refusals.specs.Refusal.{refusal_number};
 ghost use Rattle.tokens.specs.Token.{span_at};
 ghost use Rattle.fontrisc.specs.Face.{ParsesTo, SplitsTo, LooksUpTo, FindsValueTo};
 
+use refusals::Refused;
 use values::Constant;
+
+// Hands out the place of a refusal; answers its number.
+fn hand_out(refused: Refused, place: &mut u64) -> u32
+    ensures { (result ≡ refusal_number refused.why) × (place.new ≡ refused.place) }
+{
+    *place = refused.place as u64;
+    u32::from(refused.why)
+}
 
 // Hands out where the bytes of token n lie in the text.
 #[unsafe(no_mangle)]
@@ -37,10 +47,7 @@ pub extern "C" fn fontrisc_parse(text: &[u8], tokens: &[u32], rows: &mut [u64], 
             *at = n as u64;
             0
         }
-        Err(refused) => {
-            *at = refused.place as u64;
-            u32::from(refused.why)
-        }
+        Err(refused) => hand_out(refused, at),
     }
 }
 
@@ -64,9 +71,8 @@ pub extern "C" fn fontrisc_split(
             0
         }
         Err(refused) => {
-            *clauses = refused.place as u64;
             *total = 0;
-            u32::from(refused.why)
+            hand_out(refused, clauses)
         }
     }
 }
@@ -89,9 +95,8 @@ pub extern "C" fn fontrisc_lookup(
             0
         }
         Err(refused) => {
-            *column = refused.place as u64;
             *count = 0;
-            u32::from(refused.why)
+            hand_out(refused, column)
         }
     }
 }
@@ -118,10 +123,9 @@ pub extern "C" fn fontrisc_value(
             0
         }
         Err(refused) => {
-            *kind = refused.place as u64;
             *x = 0;
             *y = 0;
-            u32::from(refused.why)
+            hand_out(refused, kind)
         }
     }
 }

@@ -11,4 +11,5 @@ returns-in-Ok c = record { answer = c.lookup.result; looks = c.lookup.ensures; n
 pub returns-in-Err : goal.returns-in-Err
 unfolding looked_up_numbers
 returns-in-Err c =
-    record { answer = c.lookup.result; looks = c.lookup.ensures; numbers = rw c.from.ensures (sym (ap looked_up_numbers c.in-Err.is)) }
+    let of-refused = sym (ap looked_up_numbers c.in-Err.is) in
+    record { answer = c.lookup.result; looks = c.lookup.ensures; numbers = rw c.hand_out.ensures.0 (rw c.hand_out.ensures.1 of-refused) }

@@ -11,4 +11,5 @@ returns-in-Ok c = record { answer = c.parse.result; parses = c.parse.ensures; nu
 pub returns-in-Err : goal.returns-in-Err
 unfolding parse_numbers
 returns-in-Err c =
-    record { answer = c.parse.result; parses = c.parse.ensures; numbers = rw c.from.ensures (sym (ap parse_numbers c.in-Err.is)) }
+    let of-refused = sym (ap parse_numbers c.in-Err.is) in
+    record { answer = c.parse.result; parses = c.parse.ensures; numbers = rw c.hand_out.ensures.0 (rw c.hand_out.ensures.1 of-refused) }

@@ -11,4 +11,5 @@ returns-in-Ok c = record { answer = c.split.result; splits = c.split.ensures; nu
 pub returns-in-Err : goal.returns-in-Err
 unfolding split_numbers
 returns-in-Err c =
-    record { answer = c.split.result; splits = c.split.ensures; numbers = rw c.from.ensures (sym (ap split_numbers c.in-Err.is)) }
+    let of-refused = sym (ap split_numbers c.in-Err.is) in
+    record { answer = c.split.result; splits = c.split.ensures; numbers = rw c.hand_out.ensures.0 (rw c.hand_out.ensures.1 of-refused) }

@@ -15,4 +15,5 @@ returns-in-Ok c =
 pub returns-in-Err : goal.returns-in-Err
 unfolding found_numbers
 returns-in-Err c =
-    record { answer = c.value_at.result; finds = c.value_at.ensures; numbers = rw c.from.ensures (sym (ap found_numbers c.in-Err.is)) }
+    let of-refused = sym (ap found_numbers c.in-Err.is) in
+    record { answer = c.value_at.result; finds = c.value_at.ensures; numbers = rw c.hand_out.ensures.0 (rw c.hand_out.ensures.1 of-refused) }
