@@ -6,7 +6,7 @@ use std::io;
 use std::io::Write;
 use syntax::kind as syntax_kind;
 
-// Answers the name of a syntax row's kind; `?` of 0, and nothing of another number that is no kind.
+// Answers the name of a syntax row's kind; `?` of 0, and nothing of another number that is no kind. The program prints these as they are: no Option.
 pub fn syntax_name(kind: u64) -> &'static str {
     match kind {
         0 => "?",
@@ -44,7 +44,7 @@ pub fn syntax_name(kind: u64) -> &'static str {
     }
 }
 
-// Answers the name of a predicate row's kind; `?` of 0, and nothing of another number that is no kind.
+// Answers the name of a predicate row's kind; `?` of 0, and nothing of another number that is no kind. The program prints these as they are: no Option.
 pub fn predicate_name(kind: u64) -> &'static str {
     match kind {
         0 => "?",

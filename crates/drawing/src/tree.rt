@@ -70,7 +70,7 @@ fn syntax_operands(row: Row) -> usize {
     }
 }
 
-// Answers how many operands a predicate row has; none where its kind is unknown.
+// Answers how many operands a predicate row has; none where its kind is unknown. The crate `predicate` keeps to itself what it knows of a row's operands.
 fn predicate_operands(row: Row) -> usize {
     match row.kind {
         predicate_kind::NOT | predicate_kind::IS | predicate_kind::FACTORIAL => 1,
@@ -128,7 +128,8 @@ impl Drawing<'_> {
         writeln!(out)
     }
 
-    // Draws the rows on the stack and all below them, each once.
+    // Draws the rows on the stack and all below them, each once. The loop counts: that no row is put on the stack twice holds of good rows alone, so the
+    // height of the stack is no measure, and for rows of any other form the count is what ends it.
     fn draw_rows(
         self,
         out: &mut impl Write,
@@ -159,6 +160,7 @@ impl Drawing<'_> {
         let Some(root) = rows::count(self.rows).checked_sub(1) else {
             return Ok(());
         };
+        // Where the subtree of each row starts: fixed memory, as many places as there may be rows.
         let mut starts = [0usize; ROWS_MAX];
         self.find_starts(&mut starts);
         let none = Pending { row: 0, depth: 0 };

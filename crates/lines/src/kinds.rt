@@ -96,7 +96,7 @@ fn reserved(word: &[u8]) -> Option<u32> {
     Some(*kind)
 }
 
-// Answers the kind of token that a word is: a number, as the token table has it.
+// Answers the kind of token that a word is. Kinds are numbers and no enum: they stand so in the token table, which a C caller lends to `fontrisc_parse`.
 pub fn kind_of(word: &[u8]) -> u32 {
     reserved(word).unwrap_or(match word {
         [b'.' | b'0'..=b'9', ..] => kind::NUMBER,

@@ -63,7 +63,8 @@ fn fitting<T: TryFrom<u64, Error: Drop>>(word: &[u8]) -> Result<T, NumberError> 
         .ok_or(NumberError::TooLarge)
 }
 
-// Reads words as numbers: writes as many as there are places for, and answers those.
+// Reads words as numbers: writes as many as there are places for, and answers those. It counts what it writes: a `zip` with the places would not tell how
+// many were filled, and would pass over a wrong word that comes after them.
 pub fn numbers_of<'a, 'b, T: TryFrom<u64, Error: Drop> + Copy>(
     words: Words<'a>,
     out: &'b mut [T],

@@ -4,7 +4,8 @@ use crate::scan::{Word, Words};
 use tokens::kind;
 use tokens::table::{Token, WIDTH};
 
-// Answers the lowest 32 bits of a number. `x as u32` and `u32::try_from(x)` would each have to say what becomes of a line of 4 GiB.
+// Answers the lowest 32 bits of a number. `x as u32` asks for a proof that x fits, and nothing here bounds a line; `u32::try_from(x)` would have to say what
+// becomes of a line of 4 GiB.
 fn low_32_bits(x: usize) -> u32 {
     (x % (1 << 32)) as u32
 }
@@ -20,7 +21,7 @@ fn token_of(word: Word) -> Token {
     }
 }
 
-// Writes the tokens of words, as many as there is room for; answers them.
+// Writes the tokens of words, as many as there is room for; answers them. It counts what it writes: `chunks_exact_mut` would not tell how many were filled.
 pub fn tokens_of<'a>(words: Words, table: &'a mut [u32]) -> &'a [u32] {
     let mut n = 0;
     for word in words {

@@ -38,7 +38,7 @@ impl<'a> Fields<'a> {
         Some(field.iter().fold(0, |value, b| grown(value, *b)))
     }
 
-    // Reads the next field; a line that is cut short goes on with zeros.
+    // Reads the next field; a line that is cut short goes on with zeros, since the program has to say the same of it as it always did.
     pub fn number(&mut self) -> u64 {
         self.next().unwrap_or(0)
     }
