@@ -51,6 +51,7 @@ impl Tally {
 }
 
 // What could not be read or written, and why.
+#[derive(Clone, Copy)]
 struct Failure<'a> {
     what: &'a str,
     why: io::Error,

@@ -38,39 +38,39 @@ fn show_read(out: &mut impl Write, line: Result<&[u8], TooLong>, number: u64) ->
     }
 }
 
-// Why the showing ended before the last line.
+// What could not be read or written, and why.
 #[derive(Clone, Copy)]
-enum ShowError {
-    Unreadable(io::Error),
-    Unwritable(io::Error),
+struct Failure<'a> {
+    what: &'a str,
+    why: io::Error,
 }
 
-// Shows every line. Where a read or a write fails it returns at once; a line that was cut short is left out.
-fn show_all(
+// Shows every line of what has this name. Where a read or a write fails it returns at once; a line that was cut short is left out. The loop ends where the
+// input does, which no measure could tell beforehand: so it counts.
+fn show_all<'a>(
     lines: &mut LineReader<impl Read>,
     out: &mut impl Write,
-    places: &mut [u8],
-) -> Result<(), ShowError> {
+    name: &'a str,
+) -> Result<(), Failure<'a>> {
+    let mut places = [0u8; 65536];
     for number in 1..=u64::MAX {
-        let Some(line) = lines.read_line(places).map_err(ShowError::Unreadable)? else {
+        let read = lines.read_line(&mut places);
+        let Some(line) = read.map_err(|why| Failure { what: name, why })? else {
             break;
         };
-        show_read(out, line, number).map_err(ShowError::Unwritable)?;
+        show_read(out, line, number).map_err(|why| Failure {
+            what: "standard output",
+            why,
+        })?;
     }
     Ok(())
 }
 
 // Shows every line, and says on standard error if a read or a write failed.
 fn show(rt: &(impl Print + Eprint), reader: impl Read + Drop, name: &str) -> ExitCode {
-    let mut places = [0u8; 65536];
-    match show_all(
-        &mut LineReader::new(reader),
-        &mut io::writer(rt),
-        &mut places,
-    ) {
+    match show_all(&mut LineReader::new(reader), &mut io::writer(rt), name) {
         Ok(()) => ExitCode::SUCCESS,
-        Err(ShowError::Unreadable(why)) => fail(rt, name, why),
-        Err(ShowError::Unwritable(why)) => fail(rt, "standard output", why),
+        Err(Failure { what, why }) => fail(rt, what, why),
     }
 }
 
