@@ -6,6 +6,7 @@ use Rattle.columns.specs.declared.test.Test.{Test}
 use Rattle.columns.specs.declared.partial.ColumnValue.{ColumnValue}
 use Rattle.columns.specs.declared.partial.PartialLookup.{PartialLookup}
 use Rattle.columns.specs.declared.partial.PartialLookup.TheVariants.{Empty, NotLookup, OnColumn}
+use Rattle.columns.specs.declared.partial.Search.{Search}
 
 -- a lookup on column c with so many values, and v, the wanted one if there are so many
 abbrev pub column_value : ℕ → ℕ → Option Value → ColumnValue
@@ -26,6 +27,14 @@ with_test n (OnColumn so_far) (Some t) = elim (eqb so_far.column t.column) [ tru
 unfoldable pub with_tests : ℕ → PartialLookup → List (Option Test) → PartialLookup
 with_tests n p [] = p
 with_tests n p (t ∷ ts) = with_tests n (with_test n p t) ts
+
+-- a search for value number n, of which the literals so far make p
+abbrev pub search_for : ℕ → PartialLookup → Search
+search_for n p = record { wanted = n; partial = p }
+
+-- a search with one literal more
+abbrev pub search_one : Search → Option Test → Search
+search_one s t = search_for s.wanted (with_test s.wanted s.partial t)
 
 -- how many values it has
 unfoldable pub value_count : PartialLookup → ℕ

@@ -4,7 +4,7 @@ ghost use Rattle.limits.specs.Limits.{literals_max};
 ghost use Rattle.predicate.specs.Tree.{tree_at, Sound};
 ghost use Rattle.cnf.specs.Clause.{literal};
 ghost use Rattle.columns.specs.Lookup.{literal_test};
-ghost use Rattle.columns.specs.Partial.{with_value, with_test, value_count};
+ghost use Rattle.columns.specs.Partial.{with_value, with_test, value_count, search_one};
 
 use crate::test::{Test, test_at};
 use cnf::SignedRow;
@@ -24,6 +24,13 @@ pub enum PartialLookup {
     Empty,
     NotLookup,
     OnColumn(ColumnValue),
+}
+
+// A search for one of the values of a lookup: its number, and what the literals so far make.
+#[derive(Clone, Copy)]
+pub struct Search {
+    pub wanted: usize,
+    pub partial: PartialLookup,
 }
 
 impl ColumnValue {
@@ -48,14 +55,14 @@ impl ColumnValue {
     }
 }
 
-impl PartialLookup {
-    // Adds one test. The first says which column it must be.
+impl Search {
+    // Adds one test to what the literals so far make. The first says which column it must be.
     #[tactic(auto, unfolding(crate::specs::Partial::with_test, crate::specs::Partial::value_count))]
-    fn with_test(self, wanted: usize, test: Test) -> PartialLookup
-        requires { value_count self ≤ literals_max }
-        ensures { result ≡ with_test wanted self (Some test) }
+    fn with_test(self, test: Test) -> PartialLookup
+        requires { value_count self.partial ≤ literals_max }
+        ensures { result ≡ with_test self.wanted self.partial (Some test) }
     {
-        let so_far = match self {
+        let so_far = match self.partial {
             PartialLookup::Empty => ColumnValue {
                 column: test.column,
                 values: 0,
@@ -64,7 +71,7 @@ impl PartialLookup {
             PartialLookup::OnColumn(so_far) if so_far.column == test.column => so_far,
             _ => return PartialLookup::NotLookup,
         };
-        PartialLookup::OnColumn(so_far.with_value(wanted, test.condition.value()))
+        PartialLookup::OnColumn(so_far.with_value(self.wanted, test.condition.value()))
     }
 }
 
@@ -84,12 +91,12 @@ fn literal_test(rows: &[u64], atom: SignedRow) -> Option<Test>
 // Adds one literal, by its atom's row. It stays a call of its own, so that a caller that calls itself has small frames.
 #[inline(never)]
 #[tactic(auto, unfolding(crate::specs::Partial::with_test))]
-pub fn with_literal(rows: &[u64], atom: SignedRow, wanted: usize, partial: &mut PartialLookup)
-    requires { Sound rows.now atom.row × (value_count partial.old ≤ literals_max) }
-    ensures { partial.new ≡ with_test wanted partial.old (literal_test (literal atom.negated (tree_at rows.now atom.row))) }
+pub fn with_literal(rows: &[u64], atom: SignedRow, search: &mut Search)
+    requires { Sound rows.now atom.row × (value_count search.old.partial ≤ literals_max) }
+    ensures { search.new ≡ search_one search.old (literal_test (literal atom.negated (tree_at rows.now atom.row))) }
 {
-    *partial = match literal_test(rows, atom) {
-        Some(test) => partial.with_test(wanted, test),
+    search.partial = match literal_test(rows, atom) {
+        Some(test) => search.with_test(test),
         None => PartialLookup::NotLookup,
     };
 }

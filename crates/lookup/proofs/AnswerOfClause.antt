@@ -24,7 +24,7 @@ use Rattle.cnf.specs.declared.Size.{Size}
 use Rattle.cnf.proofs.Sizes.{size_is, size_many}
 use Rattle.values.specs.declared.Value.TheVariants.{Null}
 use Rattle.columns.specs.Lookup.{ClauseLookup, on, none, literal_test, lookup_in, clause_lookup}
-use Rattle.columns.specs.Partial.{with_tests, value_count}
+use Rattle.columns.specs.Partial.{with_tests, value_count, search_for}
 use Rattle.columns.specs.declared.test.Test.{Test}
 use Rattle.columns.specs.declared.partial.ColumnValue.{ColumnValue}
 use Rattle.columns.specs.declared.partial.PartialLookup.TheVariants as partial
@@ -36,8 +36,8 @@ use Rattle.lookup.specs.declared.clause.RowClause.{RowClause}
 
 -- ---- from the clause to its answer
 
-pub can_find_first : {l : List ℕ} {tab : List ClauseCounts} {c : RowClause} → HasClause l c → c.at.row < length tab → CountsBelow l tab (c.at.row + 1) →
-    CanFind l tab c partial.Empty
+pub can_find_first : {l : List ℕ} {tab : List ClauseCounts} {c : RowClause} {n : ℕ} → HasClause l c → c.at.row < length tab → CountsBelow l tab (c.at.row + 1) →
+    CanFind l tab c (search_for n partial.Empty)
 unfolding value_count
 can_find_first h room counts =
     record { sound = h.sound; room = room; counts = counts; few = h.few; inside = h.inside; small = omega (arith, h.small) }

@@ -23,10 +23,10 @@ use Rattle.cnf.proofs.Crossing.{cross_at}
 use Rattle.cnf.proofs.Sizes.{length_cross, total_append, total_cross, clauses_some}
 use Rattle.cnf.proofs.Sources.{SourceIs, source_is}
 use Rattle.columns.specs.Lookup.{literal_test}
-use Rattle.columns.specs.Partial.{with_test, with_tests, value_count}
-use Rattle.columns.specs.declared.partial.PartialLookup.{PartialLookup}
+use Rattle.columns.specs.Partial.{with_tests, value_count, search_for, search_one}
+use Rattle.columns.specs.declared.partial.Search.{Search}
 use Rattle.columns.proofs.PartialLookups.{tests_append, tests_count}
-use Rattle.lookup.specs.ByNumber.{counts, held_count, clause_counts, count_when, row_clause, CanFind, with_clause, clause_of_two}
+use Rattle.lookup.specs.ByNumber.{counts, held_count, clause_counts, count_when, row_clause, CanFind, tests_of, with_clause, clause_of_two}
 use Rattle.lookup.specs.declared.clause.RowClause.{RowClause}
 use Rattle.lookup.specs.declared.counts.ClauseCounts.{ClauseCounts}
 use Rattle.lookup.proofs.HeldCounts.{counts_below_fewer}
@@ -60,12 +60,12 @@ unfolding count_when clause_counts
 count_when_is l r false = refl
 count_when_is l r true = refl
 
-same_clause : (l : List ℕ) (c d : RowClause) (p : PartialLookup) → get_or (clauses_at l c.at) c.clause [] ≡ get_or (clauses_at l d.at) d.clause [] →
-    (n : ℕ) → with_clause l c n p ≡ with_clause l d n p
-unfolding with_clause
-same_clause l c d p e n = ap (λ (ls : List Literal). with_tests n p (map literal_test ls)) e
+same_clause : (l : List ℕ) (c d : RowClause) (s : Search) → get_or (clauses_at l c.at) c.clause [] ≡ get_or (clauses_at l d.at) d.clause [] →
+    with_clause l c s ≡ with_clause l d s
+unfolding tests_of
+same_clause l c d s e = ap (λ (ls : List Literal). search_for s.wanted (with_tests s.wanted s.partial (map literal_test ls))) e
 
-module _ {l : List ℕ} {tab : List ClauseCounts} {from : RowClause} {p : PartialLookup} (can : CanFind l tab from p) where
+module _ {l : List ℕ} {tab : List ClauseCounts} {from : RowClause} {g : Search} (can : CanFind l tab from g) where
   -- the clauses of the row, and the number of the one that is wanted
   abbrev all_list : List (List Literal)
   all_list = clauses_at l from.at
@@ -74,8 +74,8 @@ module _ {l : List ℕ} {tab : List ClauseCounts} {from : RowClause} {p : Partia
   k = from.clause
 
   -- an operand's clause can be found too
-  child : {q : SignedRow} {i : ℕ} {to : PartialLookup} → q.row < from.at.row → length (clauses_at l q) ≤ clauses_max → i < length (clauses_at l q) →
-      value_count to + total (clauses_at l q) ≤ literals_max → CanFind l tab (row_clause q i) to
+  child : {q : SignedRow} {i : ℕ} {to : Search} → q.row < from.at.row → length (clauses_at l q) ≤ clauses_max → i < length (clauses_at l q) →
+      value_count to.partial + total (clauses_at l q) ≤ literals_max → CanFind l tab (row_clause q i) to
   child {q} lt few inside small =
       record {
         sound = sound_below q.row can.sound (omega arith);
@@ -90,12 +90,12 @@ module _ {l : List ℕ} {tab : List ClauseCounts} {from : RowClause} {p : Partia
     only : SourceIs l from.at (Atom q)
     only = source_is from.at can.sound s e
 
-    pub atom_can_add : Sound l q.row × (value_count p ≤ literals_max)
+    pub atom_can_add : Sound l q.row × (value_count g.partial ≤ literals_max)
     atom_can_add = (sound_below q.row can.sound only.0, omega (arith, can.small, ap total only.1))
 
-    pub atom_result : (n : ℕ) → with_test n p (literal_test (literal q.negated (tree_at l q.row))) ≡ with_clause l from n p
-    unfolding with_clause with_tests
-    atom_result n =
+    pub atom_result : search_one g (literal_test (literal q.negated (tree_at l q.row))) ≡ with_clause l from g
+    unfolding tests_of with_tests
+    atom_result =
         let zero-th : k ≡ 0 = omega (arith, can.inside, ap length only.1) in
         rw (only.1, zero-th)
 
@@ -165,27 +165,28 @@ module _ {l : List ℕ} {tab : List ClauseCounts} {from : RowClause} {p : Partia
         left_inside : k / length (clauses_at l y) < length (clauses_at l x)
         left_inside = (div-lt_iff_lt-mul some_y).1 (rw many at can.inside)
 
-        pub left_can_find : CanFind l tab (row_clause x (k / c)) p
+        pub left_can_find : CanFind l tab (row_clause x (k / c)) g
         left_can_find = child is.0 few_x (rw each left_inside) (omega (arith, can.small, totals))
 
-        module _ (n : ℕ) {left : PartialLookup} (d : left ≡ with_clause l (row_clause x (k / c)) n p) where
-          gathered_small : value_count left ≤ value_count p + total (clauses_at l x)
-          unfolding with_clause
+        module _ {left : Search} (d : left ≡ with_clause l (row_clause x (k / c)) g) where
+          gathered_small : value_count left.partial ≤ value_count g.partial + total (clauses_at l x)
+          unfolding tests_of
           gathered_small =
               let got = get_or (clauses_at l x) (k / c) [] in
               rw d
-              (omega (arith, tests_count n p (map literal_test got), length-map got literal_test, clause_total (clauses_at l x) (k / c)))
+              (omega (arith, tests_count g.wanted g.partial (map literal_test got), length-map got literal_test, clause_total (clauses_at l x) (k / c)))
 
           pub right_can_find : CanFind l tab (row_clause y (k % c)) left
           right_can_find = child is.1 few_y (rw each (mod-lt k some_y)) (omega (arith, can.small, totals, gathered_small))
 
-          pub cross_result : with_clause l (row_clause y (k % c)) n left ≡ with_clause l from n p
-          unfolding with_clause
+          pub cross_result : with_clause l (row_clause y (k % c)) left ≡ with_clause l from g
+          unfolding tests_of
           cross_result =
-              ap (λ (s : PartialLookup). with_tests n s (map literal_test (get_or (clauses_at l y) (k % c) []))) d
-              ∙ sym (tests_append n p (map literal_test (get_or (clauses_at l x) (k / c) [])) (map literal_test (get_or (clauses_at l y) (k % c) [])))
-              ∙ ap (with_tests n p) (sym (map-append literal_test (get_or (clauses_at l x) (k / c) []) (get_or (clauses_at l y) (k % c) [])))
-              ∙ ap (λ (ls : List Literal). with_tests n p (map literal_test ls)) picked
+              ap (with_clause l (row_clause y (k % c))) d
+              ∙ ap (search_for g.wanted)
+              (sym (tests_append g.wanted g.partial (tests_of l (row_clause x (k / c))) (tests_of l (row_clause y (k % c))))
+              ∙ ap (with_tests g.wanted g.partial)
+              (sym (map-append literal_test (get_or (clauses_at l x) (k / c) []) (get_or (clauses_at l y) (k % c) [])) ∙ ap (map literal_test) picked))
             where
               picked : get_or (clauses_at l x) (k / c) [] ++ get_or (clauses_at l y) (k % c) [] ≡ get_or all_list k []
               picked =
@@ -211,8 +212,8 @@ module _ {l : List ℕ} {tab : List ClauseCounts} {from : RowClause} {p : Partia
         -- what is to be said of where the clause is
         pub record FoundInTwo (t : RowClause) : Type 0 where
           pub falls : t.at.row < from.at.row
-          pub meets : CanFind l tab t p
-          pub result : (n : ℕ) → with_clause l t n p ≡ with_clause l from n p
+          pub meets : CanFind l tab t g
+          pub result : with_clause l t g ≡ with_clause l from g
 
         pub found_in_two : {t : RowClause} → t ≡ clause_of_two x y c k → FoundInTwo t
         unfolding clause_of_two
@@ -224,7 +225,7 @@ module _ {l : List ℕ} {tab : List ClauseCounts} {from : RowClause} {p : Partia
                 record {
                   falls = so.0;
                   meets = child so.0 (omega (arith, can.few, many_both)) (omega (arith, first_many)) (omega (arith, can.small, all_both));
-                  result = same_clause l (row_clause x k) from p
+                  result = same_clause l (row_clause x k) from g
                       (sym (pick_left (clauses_at l x) (clauses_at l y) k (omega (arith, first_many)))
                       ∙ ap (λ (cs : List (List Literal)). get_or cs k []) (sym so.2));
                 }
@@ -235,7 +236,7 @@ module _ {l : List ℕ} {tab : List ClauseCounts} {from : RowClause} {p : Partia
                   meets =
                       child so.1 (omega (arith, can.few, many_both)) (omega (arith, first_many, many_both, can.inside))
                       (omega (arith, can.small, all_both));
-                  result = same_clause l (row_clause y (k - c)) from p
+                  result = same_clause l (row_clause y (k - c)) from g
                       (ap (λ (i : ℕ). get_or (clauses_at l y) (k - i) []) first_many
                       ∙ sym (pick_right (clauses_at l x) (clauses_at l y) k (omega (arith, first_many)))
                       ∙ ap (λ (cs : List (List Literal)). get_or cs k []) (sym so.2));

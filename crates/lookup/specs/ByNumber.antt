@@ -1,6 +1,6 @@
 -- What the functions that answer a question promise each other: a clause is found by its number, from the counts of every row, and its literals make the
 -- lookup. No entry's promise names this file.
-use Rattle.std.specs.Prelude.{Result, Ok, Err, ◌≡◌, ℕ, ◌+◌, ◌-◌, ◌*◌, ◌<◌, ◌≤◌, min, Bool, true, false, List, [], map, length, get_or, slice_get, ltb}
+use Rattle.std.specs.Prelude.{Option, Result, Ok, Err, ◌≡◌, ℕ, ◌+◌, ◌-◌, ◌*◌, ◌<◌, ◌≤◌, min, Bool, true, false, List, [], map, length, get_or, slice_get, ltb}
 use Rattle.limits.specs.Limits.{rows_max, clauses_max, literals_max, clauses_held}
 use Rattle.refusals.specs.Refusal.{refused}
 use Rattle.refusals.specs.declared.Refusal.TheVariants as refusal
@@ -10,9 +10,11 @@ use Rattle.cnf.specs.Clause.{total}
 use Rattle.cnf.specs.Source.{clauses_at, signed}
 use Rattle.cnf.specs.declared.SignedRow.{SignedRow}
 use Rattle.columns.specs.Lookup.{literal_test}
-use Rattle.columns.specs.Partial.{column_value, with_tests, value_count}
+use Rattle.columns.specs.Partial.{column_value, with_tests, value_count, search_for}
+use Rattle.columns.specs.declared.test.Test.{Test}
 use Rattle.columns.specs.declared.partial.ColumnValue.{ColumnValue}
 use Rattle.columns.specs.declared.partial.PartialLookup.{PartialLookup}
+use Rattle.columns.specs.declared.partial.Search.{Search}
 use Rattle.columns.specs.declared.partial.PartialLookup.TheVariants.{Empty, NotLookup, OnColumn}
 use Rattle.lookup.specs.Answer.{Lookup, on_column, refuse}
 use Rattle.lookup.specs.declared.counts.ClauseCounts.{ClauseCounts}
@@ -61,18 +63,26 @@ pub record HasClause (l : List ℕ) (c : RowClause) : Type 0 where
   pub small : total (clauses_at l c.at) ≤ literals_max
   pub inside : c.clause < length (clauses_at l c.at)
 
--- a row's clause can be found, and its literals can be added to p
-pub record CanFind (l : List ℕ) (t : List ClauseCounts) (c : RowClause) (p : PartialLookup) : Type 0 where
+-- a row's clause can be found, and its literals can be added to a search
+pub record CanFind (l : List ℕ) (t : List ClauseCounts) (c : RowClause) (s : Search) : Type 0 where
   pub sound : Sound l c.at.row
   pub room : c.at.row < length t
   pub counts : CountsBelow l t (c.at.row + 1)
   pub few : length (clauses_at l c.at) ≤ clauses_max
   pub inside : c.clause < length (clauses_at l c.at)
-  pub small : value_count p + total (clauses_at l c.at) ≤ literals_max
+  pub small : value_count s.partial + total (clauses_at l c.at) ≤ literals_max
 
--- the lookup with the literals of a row's clause added
-unfoldable pub with_clause : List ℕ → RowClause → ℕ → PartialLookup → PartialLookup
-with_clause l c n p = with_tests n p (map literal_test (get_or (clauses_at l c.at) c.clause []))
+-- what the literals of a row's clause test
+unfoldable pub tests_of : List ℕ → RowClause → List (Option Test)
+tests_of l c = map literal_test (get_or (clauses_at l c.at) c.clause [])
+
+-- a search with the literals of a row's clause added
+abbrev pub with_clause : List ℕ → RowClause → Search → Search
+with_clause l c s = search_for s.wanted (with_tests s.wanted s.partial (tests_of l c))
+
+-- what a whole clause makes, in a search for value number n
+abbrev pub clause_partial : List ℕ → RowClause → ℕ → PartialLookup
+clause_partial l c n = with_tests n Empty (tests_of l c)
 
 -- clause k of x's list and then y's, of which the first has so many
 unfoldable pub clause_of_two : SignedRow → SignedRow → ℕ → ℕ → RowClause

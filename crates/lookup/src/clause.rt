@@ -4,7 +4,7 @@ ghost use Rattle.lookup.specs.ByNumber.{CanFind, clause_of_two, with_clause};
 
 use crate::counts::ClauseCounts;
 use cnf::{SignedRow, Source, past_nots};
-use columns::partial::{PartialLookup, with_literal};
+use columns::partial::{Search, with_literal};
 
 // A clause of a row, by its number.
 #[derive(Clone, Copy)]
@@ -29,18 +29,12 @@ fn clause_of_two(left: SignedRow, right: SignedRow, many: usize, clause: usize) 
 }
 
 // Adds the literals of a clause. A clause of lists that are joined crosswise is a left one and a right one, else it is one of either list.
-pub fn with_clause(
-    rows: &[u64],
-    table: &[ClauseCounts],
-    from: RowClause,
-    wanted: usize,
-    partial: &mut PartialLookup,
-)
-    requires { CanFind rows.now table.now from partial.old }
-    ensures { partial.new ≡ with_clause rows.now from wanted partial.old }
+pub fn with_clause(rows: &[u64], table: &[ClauseCounts], from: RowClause, search: &mut Search)
+    requires { CanFind rows.now table.now from search.old }
+    ensures { search.new ≡ with_clause rows.now from search.old }
 {
     match past_nots(rows, from.at) {
-        Source::Atom(atom) => with_literal(rows, atom, wanted, partial),
+        Source::Atom(atom) => with_literal(rows, atom, search),
         Source::Joined {
             left,
             right,
@@ -56,12 +50,12 @@ pub fn with_clause(
                     at: right,
                     clause: from.clause % each,
                 };
-                with_clause(rows, table, of_left, wanted, partial);
-                with_clause(rows, table, of_right, wanted, partial);
+                with_clause(rows, table, of_left, search);
+                with_clause(rows, table, of_right, search);
             } else {
                 let many = table[left.row].when(left.negated);
                 let side = clause_of_two(left, right, many, from.clause);
-                with_clause(rows, table, side, wanted, partial);
+                with_clause(rows, table, side, search);
             }
         }
     }

@@ -7,7 +7,7 @@
 
 use clause::{RowClause, with_clause};
 use cnf::SignedRow;
-use columns::partial::{ColumnValue, PartialLookup};
+use columns::partial::{ColumnValue, PartialLookup, Search};
 use counts::{ClauseCounts, fill_clause_counts};
 use limits::ROWS_MAX;
 use refusals::{Refusal, Refused};
@@ -22,7 +22,7 @@ ghost use Rattle.predicate.specs.Tree.{Sound};
 ghost use Rattle.predicate.specs.Read.{read_rows};
 ghost use Rattle.cnf.specs.Source.{clauses_at};
 ghost use Rattle.lookup.specs.Answer.{lookup_of, lookup_among, LooksUp, FindsValue};
-ghost use Rattle.lookup.specs.ByNumber.{HasClause, with_clause, answer_of, partial_answer};
+ghost use Rattle.lookup.specs.ByNumber.{HasClause, clause_partial, answer_of, partial_answer};
 
 // The lookup that a clause is: on which column, and how many values it has.
 #[derive(Clone, Copy)]
@@ -46,19 +46,22 @@ fn clause_lookup_within<const N: usize>(
     wanted: usize,
 ) -> PartialLookup
     requires { HasClause rows.now from × (from.at.row < N) × (N ≤ rows_max) }
-    ensures { result ≡ with_clause rows.now from wanted PartialLookup.Empty }
+    ensures { result ≡ clause_partial rows.now from wanted }
 {
     let mut table = [NO_COUNTS; N];
     fill_clause_counts(rows, &mut table, from.at.row);
-    let mut partial = PartialLookup::Empty;
-    with_clause(rows, &table, from, wanted, &mut partial);
-    partial
+    let mut search = Search {
+        wanted,
+        partial: PartialLookup::Empty,
+    };
+    with_clause(rows, &table, from, &mut search);
+    search.partial
 }
 
 // Answers the same, by a table that is large enough for the rows.
 fn clause_lookup(rows: &[u64], from: RowClause, wanted: usize) -> PartialLookup
     requires { HasClause rows.now from }
-    ensures { result ≡ with_clause rows.now from wanted PartialLookup.Empty }
+    ensures { result ≡ clause_partial rows.now from wanted }
 {
     if from.at.row < FEW_ROWS {
         clause_lookup_within::<FEW_ROWS>(rows, from, wanted)

@@ -23,7 +23,7 @@ with_clause-requires t c = (
 pub with_clause-requires-then-crosswise : goal.with_clause-requires-then-crosswise
 with_clause-requires-then-crosswise t c = (
   omega (arith, c.decreases, falls_right c.requires c.past_nots.ensures c.in-Joined.is),
-  right_can_find c.requires c.past_nots.ensures c.in-Joined.is c.if-crosswise.true c.when-each.ensures _ c.with_clause.ensures,
+  right_can_find c.requires c.past_nots.ensures c.in-Joined.is c.if-crosswise.true c.when-each.ensures c.with_clause.ensures,
 )
 
 pub with_clause-requires-else-crosswise : goal.with_clause-requires-else-crosswise
@@ -32,17 +32,17 @@ with_clause-requires-else-crosswise t c =
     (omega (arith, c.decreases, found.falls), found.meets)
 
 pub returns-in-Atom : goal.returns-in-Atom
-returns-in-Atom t c = c.with_literal.ensures ∙ atom_result c.requires c.past_nots.ensures c.in-Atom.is _
+returns-in-Atom t c = c.with_literal.ensures ∙ atom_result c.requires c.past_nots.ensures c.in-Atom.is
 
 pub returns-then-crosswise : goal.returns-then-crosswise
 returns-then-crosswise t c =
     c.with_clause-then-crosswise.ensures
-    ∙ cross_result c.requires c.past_nots.ensures c.in-Joined.is c.if-crosswise.true c.when-each.ensures _ c.with_clause.ensures
+    ∙ cross_result c.requires c.past_nots.ensures c.in-Joined.is c.if-crosswise.true c.when-each.ensures c.with_clause.ensures
 
 pub returns-else-crosswise : goal.returns-else-crosswise
 returns-else-crosswise t c =
     c.with_clause-else-crosswise.ensures
-    ∙ (found_in_two c.requires c.past_nots.ensures c.in-Joined.is c.if-crosswise.false c.when-many.ensures c.clause_of_two-side.ensures).result _
+    ∙ (found_in_two c.requires c.past_nots.ensures c.in-Joined.is c.if-crosswise.false c.when-many.ensures c.clause_of_two-side.ensures).result
 
 pub offset_bounds-table-right : goal.offset_bounds-table-right
 offset_bounds-table-right t c = let lt = right_in_table c.requires c.past_nots.ensures c.in-Joined.is in search rules
