@@ -74,9 +74,9 @@ fn print_literals(out: &mut impl Write, literals: &[u32]) -> io::Result<()> {
 // Prints how many clauses and literals there are.
 fn print_counts(out: &mut impl Write, listed: Listed) -> io::Result<()> {
     write!(out, "  ")?;
-    print_count(out, listed.clauses, "clause")?;
+    print_count(out, listed.clauses, b"clause")?;
     write!(out, ", ")?;
-    print_count(out, listed.literals, "literal")?;
+    print_count(out, listed.literals, b"literal")?;
     writeln!(out)
 }
 

@@ -33,9 +33,10 @@ pub fn print_blanks_for(out: &mut impl Write, s: &[u8]) -> io::Result<()> {
 }
 
 // Prints how many there are of something.
-pub fn print_count(out: &mut impl Write, n: usize, what: &str) -> io::Result<()> {
+pub fn print_count(out: &mut impl Write, n: usize, what: &[u8]) -> io::Result<()> {
     let plural = if n == 1 { "" } else { "s" };
-    write!(out, "{n} {what}{plural}")
+    write!(out, "{n} ")?;
+    print_between(out, "", what, plural)
 }
 
 // Prints bytes between quotes.

@@ -30,11 +30,12 @@ impl<'a> Words<'a> {
         Words { line, at: 0 }
     }
 
-    // Starts with the first word after so many bytes of a line.
-    pub fn after(line: &'a [u8], at: usize) -> Words<'a>
-        requires { at ≤ length line.now }
-    {
-        Words { line, at }
+    // Starts with the first word after so many bytes of a line; there is none, if the line is no longer.
+    pub fn after(line: &'a [u8], at: usize) -> Words<'a> {
+        Words {
+            line,
+            at: at.min(line.len()),
+        }
     }
 
     // Answers what stands before word n, counted from 0, or up to the end of the last word where there are fewer.

@@ -27,7 +27,7 @@ pub fn print_wrong(out: &mut impl Write, number: u64, what: &str) -> io::Result<
 // Prints how many rows there are, and draws their tree.
 fn draw_counted(out: &mut impl Write, drawing: Drawing) -> io::Result<()> {
     write!(out, "  ")?;
-    print_count(out, rows::count(drawing.rows), "row")?;
+    print_count(out, rows::count(drawing.rows), b"row")?;
     writeln!(out)?;
     drawing.draw(out)
 }
