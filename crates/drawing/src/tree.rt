@@ -2,12 +2,13 @@
 //
 // Rows stand in post-order, so a row's operands are the whole subtrees before it. Where each subtree starts is found first, in one pass; then rows are
 // drawn from a stack, on which a drawn row puts its operands, the leftmost on top.
-ghost use Rattle.std.specs.Prelude.{◌≤◌};
+ghost use Rattle.std.specs.Prelude.{◌≤◌, ◌<◌};
 ghost use Rattle.limits.specs.Limits.{rows_max};
+ghost use Rattle.rows.specs.Layout.{row_count};
 
 use crate::labels::{print_predicate_row, print_syntax_row};
 use limits::ROWS_MAX;
-use predicate::kind as predicate_kind;
+use predicate::Shape;
 use rows::Row;
 use std::io;
 use std::io::Write;
@@ -70,13 +71,12 @@ fn syntax_operands(row: Row) -> usize {
     }
 }
 
-// Answers how many operands a predicate row has; none where its kind is unknown. The crate `predicate` keeps to itself what it knows of a row's operands.
-fn predicate_operands(row: Row) -> usize {
-    match row.kind {
-        predicate_kind::NOT | predicate_kind::IS | predicate_kind::FACTORIAL => 1,
-        predicate_kind::IDENTITY | predicate_kind::NEGATE | predicate_kind::SQUARE_ROOT => 1,
-        predicate_kind::AND..=predicate_kind::LIKE => 2,
-        _ => 0,
+// Answers how many operands a predicate row of this shape has.
+fn predicate_operands(shape: Shape) -> usize {
+    match shape {
+        Shape::Leaf => 0,
+        Shape::One(_) | Shape::Not(_) => 1,
+        Shape::Two(_, _) | Shape::Both(_, _) | Shape::Either(_, _) => 2,
     }
 }
 
@@ -96,19 +96,20 @@ fn each_operand<F: FnMut(usize)>(starts: &[usize], n: usize, operands: usize, mu
 }
 
 impl Drawing<'_> {
-    // Answers how many operands a row has.
-    fn operands(self, row: Row) -> usize {
+    // Answers how many operands row n has.
+    fn operands(self, n: usize) -> usize
+        requires { n < row_count self.rows.now }
+    {
         match self.family {
-            Family::Syntax { tokens: _ } => syntax_operands(row),
-            Family::Predicate => predicate_operands(row),
+            Family::Syntax { tokens: _ } => syntax_operands(rows::row_at(self.rows, n)),
+            Family::Predicate => predicate_operands(predicate::shape_at(self.rows, n)),
         }
     }
 
     // Writes the first row of each subtree.
     fn find_starts(self, starts: &mut [usize]) {
         for n in 0..rows::count(self.rows) {
-            let operands = self.operands(rows::row_at(self.rows, n));
-            let first = each_operand(starts, n, operands, |_| {});
+            let first = each_operand(starts, n, self.operands(n), |_| {});
             if let Some(start) = starts.get_mut(n) {
                 *start = first;
             }
@@ -147,7 +148,7 @@ impl Drawing<'_> {
                 each_operand(
                     starts,
                     n,
-                    self.operands(row),
+                    self.operands(n),
                     |root| stack.push(root, depth.saturating_add(1)),
                 );
             }
