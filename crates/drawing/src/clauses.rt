@@ -45,8 +45,8 @@ impl Predicate<'_> {
         }
     }
 
-    // Prints each clause on a line, and below it what it looks for. `replay` goes through the ends alike, but only the splitter stands below both, and it
-    // hands out its entries alone.
+    // Prints each clause on a line, and below it what it looks for. `replay` goes through the ends alike: of the crates below both only the splitter
+    // has such lists, and it hands out its entries alone.
     fn print_clauses(self, out: &mut impl Write, literals: &[u32], ends: &[u32]) -> io::Result<()> {
         let mut from = 0;
         for (k, end) in ends.iter().enumerate() {

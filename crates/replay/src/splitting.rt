@@ -9,8 +9,8 @@ const LITERALS: usize = 1024;
 
 const ENDS: usize = 512;
 
-// Tells if the clauses are those of the next fields, to the last field. `drawing` goes through the ends alike, but only the splitter stands below both, and
-// it hands out its entries alone.
+// Tells if the clauses are those of the next fields, to the last field. `drawing` goes through the ends alike: of the crates below both only the splitter has
+// such lists, and it hands out its entries alone.
 fn clauses_are(literals: &[u32], ends: &[u32], fields: &mut Fields) -> bool {
     let mut start = 0;
     for end in ends {
