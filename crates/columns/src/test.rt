@@ -16,7 +16,7 @@ pub struct Test {
     pub condition: Condition,
 }
 
-// What a test asks of its column: that it equals a constant; or that it is NULL (0) or NaN.
+// What a test asks of its column: that it equals a constant; or that it is NULL (0) or NaN, by the number of its row, which `is_test` of specs/ keeps.
 #[derive(Clone, Copy)]
 pub enum Condition {
     Equals(Constant),

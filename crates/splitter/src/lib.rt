@@ -17,7 +17,7 @@ use limits::LITERALS_MAX;
 use listing::{Cell, literal_number, write_clauses};
 use refusals::{Refusal, Refused};
 
-// How many clauses and literals were listed.
+// How many clauses and literals were listed. A `Size` counts in 32 bits, so that products are exact; an answer counts places of the lists.
 #[derive(Clone, Copy)]
 pub struct Listed {
     pub clauses: usize,
