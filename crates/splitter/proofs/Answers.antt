@@ -31,6 +31,12 @@ same e = cc
 -- ---- an answer of clauses is that of the last case
 
 module _ (cs : List (List Literal)) (a d : List ℕ) where
+  many : Bool
+  many = ltb clauses_max (length cs) || ltb literals_max (total cs)
+
+  short : Bool
+  short = ltb (length a) (total cs) || ltb (length d) (length cs)
+
   -- what is listed, by the outcomes of the tests: are there too many, and is a list too short?
   abbrev listed_by : Bool → Bool → Split
   listed_by toomany tooshort =
@@ -48,17 +54,22 @@ module _ (cs : List (List Literal)) (a d : List ℕ) where
             ]
       ]
 
+  by_tests : (b c : Bool) → many ≡ b → short ≡ c → list_of cs a d ≡ listed_by b c
+  unfolding list_of many short
+  by_tests b c e f = ap₂ listed_by e f
+
   abbrev IsListed : ℕ → Split → Type 0
   IsListed c s = (c ≡ length cs) × (s.literals ≡ literal_numbers cs ++ drop (total cs) a) × (s.ends ≡ ends_from 0 cs ++ drop (length cs) d)
 
-  by_tests : (p q : Bool) (c m : ℕ) → Ok (listed c m) ≡ (listed_by p q).answer → IsListed c (listed_by p q)
-  by_tests true q c m e = absurd (differ e)
-  by_tests false true c m e = absurd (differ e)
-  by_tests false false c m e = (ap (λ (l : Listed). l.clauses) (same e), refl, refl)
+  only_the_last_is_listed : (p q : Bool) (c m : ℕ) → Ok (listed c m) ≡ (listed_by p q).answer → IsListed c (listed_by p q)
+  only_the_last_is_listed true q c m e = absurd (differ e)
+  only_the_last_is_listed false true c m e = absurd (differ e)
+  only_the_last_is_listed false false c m e = (ap (λ (l : Listed). l.clauses) (same e), refl, refl)
 
   listed_is : {c m : ℕ} → Ok (listed c m) ≡ (list_of cs a d).answer → IsListed c (list_of cs a d)
-  unfolding list_of
-  listed_is {c} {m} e = by_tests (ltb clauses_max (length cs) || ltb literals_max (total cs)) (ltb (length a) (total cs) || ltb (length d) (length cs)) c m e
+  listed_is {c} {m} e =
+      let by : list_of cs a d ≡ listed_by many short = by_tests many short refl refl in
+      subst (IsListed c) (sym by) (only_the_last_is_listed many short c m (e ∙ ap (λ (s : Split). s.answer) by))
 
 -- ---- what a caller gets
 
