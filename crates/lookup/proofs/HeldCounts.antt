@@ -5,7 +5,7 @@ use Prim.Native.Nat.{ℕ, ◌+◌, ◌*◌, ◌≤◌, ◌<◌, min}
 use mathlib.Core.Bool.{Bool, true, false}
 use mathlib.Core.List.{List, map}
 use mathlib.Core.Logic.{◌⊎◌, inl, inr}
-use native.Mathlib.Nat.{le-mul_of_pos_right}
+use native.Mathlib.Nat.{le-mul_of_pos_right, add-zero}
 use native.Mathlib.Omega.{arith}
 use borrow.Author.Tests.{leb-true, leb-false}
 use lib.Dec.{leb}
@@ -19,10 +19,10 @@ use Rattle.predicate.specs.declared.Shape.{Shape}
 use Rattle.predicate.specs.declared.Shape.TheVariants as shape
 use Rattle.predicate.proofs.Trees.{sound_below}
 use Rattle.predicate.proofs.Shapes.{node_at, falls_both, falls_either, falls_not}
-use Rattle.cnf.specs.Clause.{clauses}
+use Rattle.cnf.specs.Clause.{clauses, bit}
 use Rattle.cnf.specs.Source.{signed}
 use Rattle.cnf.proofs.Sizes.{length_join, clauses_some}
-use Rattle.lookup.specs.ByNumber.{counts, held_count, clause_counts, both_counts, not_counts, CountsBelow}
+use Rattle.lookup.specs.ByNumber.{counts, held_count, count_when, clause_counts, both_counts, not_counts, CountsBelow}
 use Rattle.lookup.specs.declared.counts.ClauseCounts.{ClauseCounts}
 
 -- ---- held sums and products
@@ -46,6 +46,15 @@ held_product a b ha hb = by (leb a clauses_held) (leb b clauses_held) refl refl
         let y : min b clauses_held ≡ clauses_held = omega (arith, leb-false b clauses_held f) in
         let x : 0 < min a clauses_held = omega arith in
         rw y (omega (arith, leb-false b clauses_held f, le-mul_of_pos_right b ha, le-mul_of_pos_right clauses_held x))
+
+-- ---- a table as plain numbers
+
+-- of a table that has two places for each row, first the plain count and then the negated one: a row's count in a reading stands at the number of that literal
+pub entries : (t : List ℕ) (r : ℕ) (g : Bool) →
+    count_when (record { plain = get_or t (2 * r) 0; negated = get_or t (2 * r + 1) 0 }) g ≡ get_or t (2 * r + bit g) 0
+unfolding count_when
+entries t r false = ap (λ (i : ℕ). get_or t i 0) (sym (add-zero (2 * r)))
+entries t r true = refl
 
 -- ---- the counts of a row from those of its operands
 
