@@ -1,3 +1,4 @@
--- Laws of values and of their constants.
+-- Laws of values, of their patterns and of their constants.
 pub mod NanPatterns
+pub mod SignedPatterns
 pub mod ConstantsReadBack
