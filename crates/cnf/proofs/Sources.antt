@@ -52,14 +52,15 @@ source_step l r s = go (shape_at l r.row) (s.falls r.row (omega arith))
 
 -- ---- what a source says
 
+-- an atom's one literal, or the lists of two rows joined, both read alike
 abbrev pub SourceIs : List ℕ → SignedRow → Source → Type 0
 SourceIs l r (Atom q) = (q.row ≤ r.row) × (clauses_at l r ≡ (literal q.negated (tree_at l q.row) ∷ []) ∷ [])
-SourceIs l r (Joined x y o) = (x.row < r.row) × (y.row < r.row) × (clauses_at l r ≡ join o (clauses_at l x) (clauses_at l y))
+SourceIs l r (Joined x y o) = (x.row < r.row) × (y.row < r.row) × (clauses_at l r ≡ join o (clauses_at l x) (clauses_at l y)) × (x.negated ≡ y.negated)
 
 -- a row has the clauses of row x before it
 lift : (l : List ℕ) (r x : SignedRow) (v : Source) → x.row < r.row → clauses_at l r ≡ clauses_at l x → SourceIs l x v → SourceIs l r v
 lift l r x (Atom q) b e p = (omega (arith, p.0), e ∙ p.1)
-lift l r x (Joined a c o) b e p = (omega (arith, p.0), omega (arith, p.1), e ∙ p.2)
+lift l r x (Joined a c o) b e p = (omega (arith, p.0), omega (arith, p.1), e ∙ p.2, p.3)
 
 -- an atom's one literal
 atom_clauses : (l : List ℕ) (r : SignedRow) (t : Tree) → tree_at l r.row ≡ t → clauses r.negated t ≡ (literal r.negated t ∷ []) ∷ []
@@ -73,8 +74,8 @@ unfolding source_of clauses node_of arity_of operands_of
 shape_is l r shape.Leaf w b t follow i = (omega arith, atom_clauses l r _ t refl)
 shape_is l r (shape.One x) w b t follow i = (omega arith, atom_clauses l r _ t refl)
 shape_is l r (shape.Two x y) w b t follow i = (omega arith, atom_clauses l r _ t refl)
-shape_is l r (shape.Both x y) w b t follow i = (b.0, b.1, ap (clauses r.negated) t)
-shape_is l r (shape.Either x y) w b t follow i = (b.0, b.1, ap (clauses r.negated) t)
+shape_is l r (shape.Both x y) w b t follow i = (b.0, b.1, ap (clauses r.negated) t, refl)
+shape_is l r (shape.Either x y) w b t follow i = (b.0, b.1, ap (clauses r.negated) t, refl)
 shape_is l r (shape.Not x) w b t follow i =
     let q = signed (not r.negated) x in
     lift l r q (follow q) b (ap (clauses r.negated) t) (i q b)
