@@ -71,6 +71,7 @@ prepended_more {x} {u} {v} {d} {e} {first} {i} {n} {m} {w} p low within room is 
     cells = grind (arith, common_steps);
     heads = grind (arith, common_steps);
     old = grind (arith, common_steps);
+    unused = grind (arith, common_steps);
     before = grind (arith, common_steps);
     after = grind (arith, common_steps);
   };

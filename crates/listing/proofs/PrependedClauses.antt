@@ -35,6 +35,7 @@ atom_prepended x {cs} {n'} {u} {v} {d} {e} {spare} {first} {each} {n} {m} c ex p
         cells = p.elsewhere.cells;
         heads = p.elsewhere.heads;
         old = p.elsewhere.old;
+        unused = p.elsewhere.unused;
         before = λ i q. p.elsewhere.before i (omega (arith, f.space));
         after = p.elsewhere.after;
       };
@@ -127,6 +128,7 @@ module _ {cs : List (List Literal)} (xs ys : List (List Literal)) (c : cs ≡ xs
             cells = r.elsewhere.cells ∙ q.elsewhere.cells;
             heads = after_all;
             old = λ i g h. r.elsewhere.old i g (omega (arith, q.elsewhere.more)) ∙ q.elsewhere.old i g h;
+            unused = λ g. r.elsewhere.unused (omega (arith, q.elsewhere.more)) ∙ q.elsewhere.unused g;
             before = λ i h. r.elsewhere.before i h ∙ b.before i (omega (arith, append_room)) ∙ q.elsewhere.before i (omega arith) ∙ s.before i h;
             after = λ i h.
                 r.elsewhere.after i (omega (arith, q.end, append_room))
@@ -230,6 +232,7 @@ module _ {cs : List (List Literal)} (xs ys : List (List Literal)) (c : cs ≡ cr
         cells = r.elsewhere.cells ∙ q.elsewhere.cells;
         heads = r.elsewhere.heads ∙ q.elsewhere.heads;
         old = λ i g h. r.elsewhere.old i g (omega (arith, q.elsewhere.more)) ∙ q.elsewhere.old i g h;
+        unused = λ g. r.elsewhere.unused (omega (arith, q.elsewhere.more)) ∙ q.elsewhere.unused g;
         before = λ i h. r.elsewhere.before i h ∙ q.elsewhere.before i h;
         after = λ i h. r.elsewhere.after i (omega (arith, q.end)) ∙ q.elsewhere.after i h;
       };

@@ -3,12 +3,13 @@ use Rattle.std.specs.Prelude.{ℕ, ◌+◌, ◌<◌, ◌≤◌, ◌≡◌, List,
 use Rattle.listing.specs.Chain.{cell, cell_at}
 use Rattle.listing.specs.declared.Cell.{Cell}
 
--- from u to v the cells n up to m are new; from d to e only places from `spare` up to `end` have changed
+-- from u to v the cells n up to m are new, and of cell 0 only `next` may have changed; from d to e only places from `spare` up to `end` have
 pub record UnchangedElsewhere (u v : List Cell) (d e : List ℕ) (spare end n m : ℕ) : Type 0 where
   pub more : n ≤ m
   pub cells : length v ≡ length u
   pub heads : length e ≡ length d
   pub old : (i : ℕ) → 0 < i → i < n → cell_at v i ≡ cell_at u i
+  pub unused : 0 < n → (cell_at v 0).literal ≡ (cell_at u 0).literal
   pub before : (i : ℕ) → i < spare → get_or e i 0 ≡ get_or d i 0
   pub after : (i : ℕ) → end ≤ i → get_or e i 0 ≡ get_or d i 0
 
