@@ -1,6 +1,6 @@
 -- Laws of the number rule: a run of digits from its first turn to its end, and what a run says of what follows it.
 -- Assumes nothing.
-use mathlib.Core.Path.{◌≡◌, refl, sym, ap, ◌∙◌}
+use mathlib.Core.Path.{◌≡◌, refl, sym, ap, subst, ◌∙◌}
 use mathlib.Core.Bool.{Bool, true, false, ◌&&◌}
 use mathlib.Core.List.{List, [], ◌∷◌}
 use Prim.Native.Nat.{ℕ, ◌+◌, ◌-◌, ◌*◌, ◌≤◌, ◌<◌}
@@ -43,6 +43,27 @@ small_grows n s = by (leb n integer_max) refl
     by false e =
         let lt : integer_max < n = leb-false n integer_max e in
         sym (rw (lt-leb (value_from n s) integer_max (omega (arith, lt, grows n s)), small))
+
+-- ---- going past digits: a digit is gone past, and what is left begins with none or is nothing
+
+pub past_on : (rest : List ℕ) → 1 ≤ length rest → digit (get_or rest 0 0) ≡ true → past_digits (take (length rest - 1) (drop 1 rest)) ≡ past_digits rest
+unfolding past_digits
+past_on [] some is = absurd (omega arith)
+past_on (b ∷ after) some is =
+    let on : past_digits (b ∷ after) ≡ past_digits after = rw (is, past_digits) in
+    rw (take_rest (b ∷ after) 1) (sym on)
+
+pub past_off : (rest : List ℕ) → 1 ≤ length rest → digit (get_or rest 0 0) ≡ false → rest ≡ past_digits rest
+unfolding past_digits
+past_off [] some isnt = refl
+past_off (b ∷ after) some isnt = rw (isnt, past_digits)
+
+pub past_out : (rest : List ℕ) → length rest < 1 → rest ≡ past_digits rest
+unfolding past_digits
+past_out [] none = refl
+past_out (b ∷ after) none = absurd (omega arith)
+
+-- ---- a run of digits and its value
 
 -- the value of the digits so far, with the digits that follow
 abbrev with_digits : Option ℕ → List ℕ → Option ℕ
@@ -111,6 +132,11 @@ unfolding past_digits leading
 run_out s (b ∷ after) value none r = absurd (omega arith)
 run_out s [] value none r = (sym r.least ∙ r.total, r.left)
 
+-- once past the largest Integer, the value stays so, and the digits that are left are only gone past
+pub run_past : {s rest : List ℕ} {value : Option ℕ} → value ≡ None → Running s rest value →
+    (None ≡ small (value_from 0 (leading s))) × (past_digits rest ≡ past_digits s)
+run_past {s} {rest} past r = let q = subst (Running s rest) past r in (q.total, q.left)
+
 -- all of it is digits: those that it begins with are all
 leading_all : (s : List ℕ) → past_digits s ≡ [] → leading s ≡ s
 unfolding past_digits leading
@@ -121,6 +147,16 @@ leading_all (b ∷ s) e = by (digit b) e (leading_all s)
         ◌≡◌ {A = List ℕ} (elim d [ true ↦ b ∷ leading s | false ↦ [] ]) (b ∷ s)
     by true h on = ap (λ (l : List ℕ). b ∷ l) (on h)
     by false h on = let z : ◌≡◌ {A = ℕ} (length (b ∷ s)) 0 = ap length h in absurd (omega arith)
+
+-- and, if it is not empty, it begins with one
+pub all_begin : (s : List ℕ) → (length s == 0) ≡ false → past_digits s ≡ [] → begins s ≡ true
+unfolding past_digits begins
+all_begin [] some e = let z : ◌≡◌ {A = ℕ} 0 1 = cc in absurd (omega arith)
+all_begin (b ∷ s) some e = by (digit b) e
+  where
+    by : (d : Bool) → ◌≡◌ {A = List ℕ} (elim d [ true ↦ past_digits s | false ↦ b ∷ s ]) [] → d ≡ true
+    by true h = refl
+    by false h = let z : ◌≡◌ {A = ℕ} (length (b ∷ s)) 0 = ap length h in absurd (omega arith)
 
 -- of digits only, the value says which Integer they are
 pub digits_are : (s rest : List ℕ) (v : Option ℕ) → begins s ≡ true → rest ≡ past_digits s → (length rest == 0) ≡ true →
@@ -137,6 +173,12 @@ digits_are s rest v some is none value =
         by : (b : Bool) → elim b [ true ↦ Some (Integer n) | false ↦ None ] ≡ option_map Integer (elim b [ true ↦ Some n | false ↦ None ])
         by true = refl
         by false = refl
+
+-- that it begins with a digit need not be asked of a spelling that is not empty
+pub all_digits_are : (s rest : List ℕ) (v : Option ℕ) → (length s == 0) ≡ false → rest ≡ past_digits s → (length rest == 0) ≡ true →
+    v ≡ small (value_from 0 (leading s)) → number_of s ≡ option_map Integer v
+all_digits_are s rest v some is none value =
+    digits_are s rest v (all_begin s some (sym is ∙ nil_from_length rest (eqb-true (length rest) 0 none))) is none value
 
 -- so each value that there is is the Integer's
 pub value_said : (s : List ℕ) (v : Option ℕ) → number_of s ≡ option_map Integer v → IfSome v (λ n. number_of s ≡ Some (Integer n))

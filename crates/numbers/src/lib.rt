@@ -31,13 +31,17 @@ fn digit(b: u8) -> bool
     b'0' <= b && b <= b'9'
 }
 
-// Answers the value with one more digit after those that spelled `value`, unless it is past the largest Integer.
+// Answers the value with one more digit after those that spelled `value`, unless it is past the largest Integer. A value far below that takes one comparison.
 #[tactic(auto, unfolding(crate::specs::Run::small))]
-fn grown(value: Option<u64>, b: u8) -> Option<u64>
+fn grown(value: u64, b: u8) -> Option<u64>
     requires { (48 ≤ b) × (b ≤ 57) }
-    ensures { result ≡ option_and_then (λ n. small (n * 10 + (b - 48))) value }
+    ensures { result ≡ small (value * 10 + (b - 48)) }
 {
-    let more = value?.checked_mul(10)?.checked_add(u64::from(b - b'0'))?;
+    let unit = u64::from(b - b'0');
+    if value < INTEGER_MAX / 10 {
+        return Some(value * 10 + unit);
+    }
+    let more = value.checked_mul(10)?.checked_add(unit)?;
     if more <= INTEGER_MAX {
         Some(more)
     } else {
@@ -45,21 +49,45 @@ fn grown(value: Option<u64>, b: u8) -> Option<u64>
     }
 }
 
-// Reads the digits that a spelling begins with, perhaps none. It goes by what is left: the run ends where the digits end.
-fn digits(s: &[u8]) -> Run
-    ensures value { result.value ≡ small (value_from 0 (leading s.now)) }
-    ensures rest { result.rest.now ≡ past_digits s.now }
+// Goes past the digits that a spelling begins with, perhaps none.
+fn past_digits(s: &[u8]) -> &[u8]
+    ensures { result.now ≡ past_digits s.now }
 {
-    let mut value = Some(0);
     let mut rest = s;
     while let [b, after @ ..] = rest {
         if !digit(*b) {
             break;
         }
-        value = grown(value, *b);
         rest = after;
     }
-    Run { value, rest }
+    rest
+}
+
+// Reads the digits that a spelling begins with, perhaps none. It goes by what is left: the run ends where the digits end. Past the largest Integer the digits
+// that are left are only gone past.
+fn digits(s: &[u8]) -> Run
+    ensures value { result.value ≡ small (value_from 0 (leading s.now)) }
+    ensures rest { result.rest.now ≡ past_digits s.now }
+{
+    let mut value = 0;
+    let mut rest = s;
+    while let [b, after @ ..] = rest {
+        if !digit(*b) {
+            break;
+        }
+        let Some(more) = grown(value, *b) else {
+            return Run {
+                value: None,
+                rest: past_digits(after),
+            };
+        };
+        value = more;
+        rest = after;
+    }
+    Run {
+        value: Some(value),
+        rest,
+    }
 }
 
 // Tells if a spelling begins with a digit.
@@ -79,7 +107,7 @@ fn past_fraction(s: &[u8]) -> &[u8]
     ensures { result.now ≡ past_fraction s.now }
 {
     match s {
-        [b'.', after @ ..] => digits(after).rest,
+        [b'.', after @ ..] => past_digits(after),
         _ => s,
     }
 }
@@ -100,7 +128,7 @@ fn past_sign(s: &[u8]) -> &[u8]
 fn only_digits(s: &[u8]) -> bool
     ensures { result ≡ digits s.now }
 {
-    begins(s) && digits(s).rest.is_empty()
+    begins(s) && past_digits(s).is_empty()
 }
 
 // Tells if this is nothing, or an exponent.
@@ -138,7 +166,7 @@ pub fn number_of(s: &[u8]) -> Option<Number>
 pub fn digits_only(s: &[u8]) -> Option<u64>
     ensures { IfSome result (λ n. number_of s.now ≡ Some (Number.Integer n)) }
 {
-    if !begins(s) {
+    if s.is_empty() {
         return None;
     }
     let run = digits(s);
