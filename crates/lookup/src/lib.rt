@@ -82,6 +82,7 @@ fn partial_answer(partial: PartialLookup) -> Result<ColumnValue, Refused>
 }
 
 // Answers of a clause of a row.
+#[inline(always)]
 #[tactic(auto, using(crate::proofs::AnswerOfClause::lookup_too_many, crate::proofs::AnswerOfClause::lookup_no_such))]
 fn lookup_at(rows: &[u64], from: RowClause, wanted: usize) -> Result<ColumnValue, Refused>
     requires { Sound rows.now from.at.row × (from.at.row < rows_max) }
@@ -94,7 +95,8 @@ fn lookup_at(rows: &[u64], from: RowClause, wanted: usize) -> Result<ColumnValue
     partial_answer(clause_lookup(rows, from, wanted))
 }
 
-// Answers of a clause of a predicate.
+// Answers of a clause of a predicate. Inlined in both entries: an answer that came back through memory would be copied in parts, which a short lookup feels.
+#[inline(always)]
 #[tactic(auto, using(crate::proofs::AnswerOfClause::lookup_of_tree))]
 fn lookup_of(
     text: &[u8],
