@@ -1,5 +1,5 @@
 // Where the words of a line lie: a word is what stands between blanks.
-ghost use Rattle.std.specs.Prelude.{◌≡◌, ◌↔◌, ◌⊎◌, IsTrue, ◌-◌, ◌≤◌, length};
+ghost use Rattle.std.specs.Prelude.{◌≡◌, ◌==◌, ◌||◌, ◌↔◌, ◌⊎◌, IsTrue, ◌-◌, ◌≤◌, find, length, not};
 ghost use Rattle.std.specs.Iterator.{at_most};
 
 // Tells if a byte separates words.
@@ -7,6 +7,13 @@ fn is_blank(b: u8) -> bool
     ensures { IsTrue result ↔ (b ≡ 32) ⊎ (b ≡ 9) ⊎ (b ≡ 13) }
 {
     matches!(b, b' ' | b'\t' | b'\r')
+}
+
+// Answers the first byte of a line that is no blank: that of its first word.
+pub fn first_byte(line: &[u8]) -> Option<u8>
+    ensures { result ≡ find (λ b. not (b == 32 || b == 9 || b == 13)) line.now }
+{
+    line.iter().copied().find(|b| !is_blank(*b))
 }
 
 // A word, and what stands before it on its line.

@@ -4,7 +4,7 @@
 
 use cases::{print_wrong, show_case};
 use lines::input::{LineReader, TooLong};
-use lines::scan::Words;
+use lines::scan::first_byte;
 use std::env::FillError;
 use std::fmt::Display;
 use std::io::{Read, Write};
@@ -16,11 +16,11 @@ mod cases;
 
 // Copies a line, and prints below it what there is to say of it if it is a case. Blanks before a comment are passed over, as before a case.
 fn show_line(out: &mut impl Write, line: &[u8], number: u64) -> io::Result<()> {
-    let Some(first) = Words::of(line).next() else {
+    let Some(first) = first_byte(line) else {
         return Ok(());
     };
     out.write_all(line)?;
-    if !first.bytes.starts_with(b"#") {
+    if first != b'#' {
         writeln!(out)?;
         show_case(out, line, number)?;
     }
