@@ -27,11 +27,11 @@ fn digit(b: u8, radix: u64) -> Option<u64> {
 
 // Reads a word of digits, at least one. Where a byte is no digit, the word is no number, and not one that is too large.
 fn number_of_digits(word: &[u8], radix: u64) -> Result<u64, NumberError> {
-    if word.is_empty() {
+    let [first, rest @ ..] = word else {
         return Err(NumberError::NotNumber);
-    }
-    let mut number = Some(0u64);
-    for b in word {
+    };
+    let mut number = Some(digit(*first, radix).ok_or(NumberError::NotNumber)?);
+    for b in rest {
         let d = digit(*b, radix).ok_or(NumberError::NotNumber)?;
         number = number.and_then(|n| n.checked_mul(radix)?.checked_add(d));
     }
@@ -47,7 +47,8 @@ fn negated(n: u64) -> Result<u64, NumberError> {
     }
 }
 
-// Reads a word as a number.
+// Reads a word as a number. Always inlined: else the answer of every word of a line goes through memory.
+#[inline(always)]
 fn number_of(word: &[u8]) -> Result<u64, NumberError> {
     match word {
         [b'-', digits @ ..] => negated(number_of_digits(digits, 10)?),
@@ -64,7 +65,8 @@ fn fitting<T: TryFrom<u64, Error: Drop>>(word: &[u8]) -> Result<T, NumberError> 
 }
 
 // Reads words as numbers: writes as many as there are places for, and answers those. It counts what it writes: a `zip` with the places would not tell how
-// many were filled, and would pass over a wrong word that comes after them.
+// many were filled, and would pass over a wrong word that comes after them. Never inlined: in a long caller the loop loses its registers.
+#[inline(never)]
 pub fn numbers_of<'a, 'b, T: TryFrom<u64, Error: Drop> + Copy>(
     words: Words<'a>,
     out: &'b mut [T],
