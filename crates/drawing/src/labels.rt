@@ -26,7 +26,7 @@ pub fn print_value(out: &mut impl Write, text: &[u8], v: Value) -> io::Result<()
         Value::Boolean(b) => write!(out, "{}", truth(b)),
         Value::Integer(n) => write!(out, "{n}"),
         Value::Float(f) if f.is_nan() => write!(out, "NAN"),
-        Value::Float(f) => write!(out, "0x{:016x}", f.to_bits()),
+        Value::Float(_) => write!(out, "0x{:016x}", Constant::from(v).x),
         Value::String { start, length } => {
             let part = text.get(start..start.saturating_add(length));
             print_quoted(out, part.unwrap_or(b""))
