@@ -37,7 +37,7 @@ struct Pending {
 }
 
 // The rows that are still to be drawn, the next one on top. A stack of its own, in fixed memory: nothing here uses a heap.
-#[derive(Drop)]
+#[derive(Clone, Copy)]
 struct Stack {
     pending: [Pending; ROWS_MAX],
     height: usize,

@@ -29,8 +29,8 @@ const PARSE: u64 = b'P' as u64;
 const SPLIT: u64 = b'S' as u64;
 
 // The lines so far, how many of them differ, and the first that does.
-#[derive(Drop)]
-struct Tally {
+#[derive(Clone, Copy)]
+pub struct Tally {
     lines: u64,
     wrong: u64,
     first: Option<u64>,
