@@ -1,5 +1,5 @@
 // Where the words of a line lie: a word is what stands between blanks.
-ghost use Rattle.std.specs.Prelude.{◌≡◌, ◌==◌, ◌||◌, ◌↔◌, ◌⊎◌, IsTrue, ◌-◌, ◌≤◌, find, length, not};
+ghost use Rattle.std.specs.Prelude.{◌≡◌, ◌==◌, ◌||◌, ◌↔◌, ◌⊎◌, IsTrue, ◌-◌, ◌≤◌, find, length, min, not};
 ghost use Rattle.std.specs.Iterator.{at_most};
 
 // Tells if a byte separates words.
@@ -32,13 +32,21 @@ pub struct Words<'a> {
 }
 
 impl<'a> Words<'a> {
+    ghost use Rattle.lines.specs.Words.{line_of, read_of};
+
     // Starts with the first word of a line.
-    pub fn of(line: &'a [u8]) -> Words<'a> {
+    pub fn of(line: &'a [u8]) -> Words<'a>
+        ensures line { line_of result ≡ line.now }
+        ensures read { read_of result ≡ 0 }
+    {
         Words { line, at: 0 }
     }
 
     // Starts with the first word after so many bytes of a line; there is none, if the line is no longer.
-    pub fn after(line: &'a [u8], at: usize) -> Words<'a> {
+    pub fn after(line: &'a [u8], at: usize) -> Words<'a>
+        ensures line { line_of result ≡ line.now }
+        ensures read { read_of result ≡ min at (length line.now) }
+    {
         Words {
             line,
             at: at.min(line.len()),
@@ -46,7 +54,9 @@ impl<'a> Words<'a> {
     }
 
     // Answers what stands before word n, counted from 0, or up to the end of the last word where there are fewer.
-    pub fn before(mut self, n: usize) -> &'a [u8] {
+    pub fn before(mut self, n: usize) -> &'a [u8]
+        ensures { length result.now ≤ length (line_of self.entry) }
+    {
         match self.nth(n) {
             Some(word) => word.before,
             None => &self.line[..self.at],
@@ -55,10 +65,15 @@ impl<'a> Words<'a> {
 }
 
 impl<'a> Iterator for Words<'a> {
+    ghost use Rattle.lines.specs.Words.{words_steps};
+
     type Item = Word<'a>;
+
+    ghost next_gives = { words_steps };
 
     ghost remaining = { λ s. at_most (length s.line.now - s.at) };
 
+    #[tactic(auto, using(crate::proofs::Places::cut_in_two))]
     fn next(&mut self) -> Option<Word<'a>> {
         let line = self.line;
         let start = self.at + line[self.at..].iter().position(|b| !is_blank(*b))?;
