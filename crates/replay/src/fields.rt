@@ -1,5 +1,6 @@
 // The stored lists as numbers: a line is fields with one space between them, and a field is a decimal number or one letter.
-ghost use Rattle.std.specs.Prelude.{◌≤◌, ◌<◌};
+ghost use Rattle.std.specs.Prelude.{◌≡◌, ◌==◌, ◌+◌, ◌≤◌, ◌<◌, drop, length};
+ghost use Rattle.std.specs.List.{slice_split};
 
 use rows::WIDTH;
 use tokens::table::WIDTH as TOKEN_WIDTH;
@@ -24,13 +25,19 @@ fn grown(value: u64, b: u8) -> u64 {
 }
 
 impl<'a> Fields<'a> {
+    ghost use Rattle.replay.specs.Fields.{left_of};
+
     // Answers all fields of a line.
-    pub fn of(line: &'a [u8]) -> Fields<'a> {
+    pub fn of(line: &'a [u8]) -> Fields<'a>
+        ensures { left_of result ≡ slice_split (λ b. b == 32) line.now }
+    {
         Fields { rest: Some(line) }
     }
 
     // Reads the next field.
-    pub fn next(&mut self) -> Option<u64> {
+    pub fn next(&mut self) -> Option<u64>
+        ensures { left_of self.new ≡ drop 1 (left_of self.old) }
+    {
         let rest = self.rest?;
         let mut parts = rest.splitn(2, |b| *b == b' ');
         let field = parts.next()?;
@@ -39,13 +46,16 @@ impl<'a> Fields<'a> {
     }
 
     // Reads the next field; a line that is cut short goes on with zeros, since the program has to say the same of it as it always did.
-    pub fn number(&mut self) -> u64 {
+    pub fn number(&mut self) -> u64
+        ensures { left_of self.new ≡ drop 1 (left_of self.old) }
+    {
         self.next().unwrap_or(0)
     }
 
     // Reads a count of at most `most`.
     pub fn count(&mut self, most: usize) -> usize
-        ensures { result ≤ most }
+        ensures bound { result ≤ most }
+        ensures read { left_of self.new ≡ drop 1 (left_of self.old) }
     {
         (self.number() as usize).min(most)
     }
@@ -59,6 +69,8 @@ impl<'a> Fields<'a> {
     ) -> &'b [T]
         requires width { 0 < width }
         requires of { F.IsAlwaysCallable of }
+        ensures read { left_of self.new ≡ drop (1 + length result.now) (left_of self.old) }
+        ensures within { length result.now ≤ length out.old }
     {
         let count = self.count(out.len() / width) * width;
         let part = &mut out[..count];
@@ -69,17 +81,23 @@ impl<'a> Fields<'a> {
     }
 
     // Reads a text.
-    pub fn text<'b>(&mut self, out: &'b mut [u8]) -> &'b [u8] {
+    pub fn text<'b>(&mut self, out: &'b mut [u8]) -> &'b [u8]
+        ensures { left_of self.new ≡ drop (1 + length result.now) (left_of self.old) }
+    {
         self.list(out, 1, |n| (n % 256) as u8)
     }
 
     // Reads tokens.
-    pub fn tokens<'b>(&mut self, out: &'b mut [u32]) -> &'b [u32] {
+    pub fn tokens<'b>(&mut self, out: &'b mut [u32]) -> &'b [u32]
+        ensures { left_of self.new ≡ drop (1 + length result.now) (left_of self.old) }
+    {
         self.list(out, TOKEN_WIDTH, |n| (n % 4294967296) as u32)
     }
 
     // Reads rows.
-    pub fn rows<'b>(&mut self, out: &'b mut [u64]) -> &'b [u64] {
+    pub fn rows<'b>(&mut self, out: &'b mut [u64]) -> &'b [u64]
+        ensures { left_of self.new ≡ drop (1 + length result.now) (left_of self.old) }
+    {
         self.list(out, WIDTH, |n| n)
     }
 
