@@ -31,7 +31,8 @@ fn digit(b: u8) -> bool
     b'0' <= b && b <= b'9'
 }
 
-// Answers the value with one more digit after those that spelled `value`, unless it is past the largest Integer. A value far below that takes one comparison.
+// Answers the value with one more digit after those that spelled `value`, unless it is past the largest Integer. Most values are far below that, and take one
+// comparison. Both are with the same number, which the compiler then keeps in a register.
 #[tactic(auto, unfolding(crate::specs::Run::small))]
 fn grown(value: u64, b: u8) -> Option<u64>
     requires { (48 ≤ b) × (b ≤ 57) }
@@ -41,7 +42,10 @@ fn grown(value: u64, b: u8) -> Option<u64>
     if value < INTEGER_MAX / 10 {
         return Some(value * 10 + unit);
     }
-    let more = value.checked_mul(10)?.checked_add(unit)?;
+    if INTEGER_MAX / 10 < value {
+        return None;
+    }
+    let more = value * 10 + unit;
     if more <= INTEGER_MAX {
         Some(more)
     } else {
