@@ -1,1 +1,2 @@
+-- Laws of the words of a line.
 pub mod Places

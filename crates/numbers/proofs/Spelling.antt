@@ -44,7 +44,7 @@ small_grows n s = by (leb n integer_max) refl
         let lt : integer_max < n = leb-false n integer_max e in
         sym (rw (lt-leb (value_from n s) integer_max (omega (arith, lt, grows n s)), small))
 
--- ---- going past digits: a digit is gone past, and what is left begins with none or is nothing
+-- ---- past_digits by its first byte: a digit is skipped, and what begins with none is left as it is
 
 pub past_on : (rest : List ℕ) → 1 ≤ length rest → digit (get_or rest 0 0) ≡ true → past_digits (take (length rest - 1) (drop 1 rest)) ≡ past_digits rest
 unfolding past_digits
@@ -132,7 +132,7 @@ unfolding past_digits leading
 run_out s (b ∷ after) value none r = absurd (omega arith)
 run_out s [] value none r = (sym r.least ∙ r.total, r.left)
 
--- once past the largest Integer, the value stays so, and the digits that are left are only gone past
+-- a value past the largest Integer stays so, whatever digits are left
 pub run_past : {s rest : List ℕ} {value : Option ℕ} → value ≡ None → Running s rest value →
     (None ≡ small (value_from 0 (leading s))) × (past_digits rest ≡ past_digits s)
 run_past {s} {rest} past r = let q = subst (Running s rest) past r in (q.total, q.left)

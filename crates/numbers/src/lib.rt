@@ -3,7 +3,6 @@
 #![tactic(auto)]
 
 ghost use Rattle.std.specs.Prelude.{IfSome, ◌≡◌, ◌-◌, ◌+◌, ◌*◌, ◌≤◌};
-ghost use Rattle.std.specs.Option.{option_and_then};
 ghost use Rattle.numbers.specs.Number.{digit as digit_of, begins, digits, past_digits, past_fraction, past_sign, exponent, value_from, number_of};
 ghost use Rattle.numbers.specs.Run.{small, leading};
 
@@ -31,8 +30,8 @@ fn digit(b: u8) -> bool
     b'0' <= b && b <= b'9'
 }
 
-// Answers the value with one more digit after those that spelled `value`, unless it is past the largest Integer. Most values are far below that, and take one
-// comparison. Both are with the same number, which the compiler then keeps in a register.
+// Answers the value with one more digit after those that spelled `value`, unless it is past the largest Integer. Nearly every value is far below that and
+// takes one comparison. Both comparisons are with one number, so that the compiler keeps it in a register.
 #[tactic(auto, unfolding(crate::specs::Run::small))]
 fn grown(value: u64, b: u8) -> Option<u64>
     requires { (48 ≤ b) × (b ≤ 57) }
@@ -67,8 +66,8 @@ fn past_digits(s: &[u8]) -> &[u8]
     rest
 }
 
-// Reads the digits that a spelling begins with, perhaps none. It goes by what is left: the run ends where the digits end. Past the largest Integer the digits
-// that are left are only gone past.
+// Reads the digits that a spelling begins with, perhaps none. It goes by what is left: the run ends where the digits end. If the value is past the largest
+// Integer, the other digits are skipped.
 fn digits(s: &[u8]) -> Run
     ensures value { result.value ≡ small (value_from 0 (leading s.now)) }
     ensures rest { result.rest.now ≡ past_digits s.now }

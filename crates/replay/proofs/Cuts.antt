@@ -1,4 +1,4 @@
--- A line is cut at its spaces, one field after another.
+-- A line is cut at its spaces, one field after another. Assumes nothing.
 use Rattle.std.proofs.Common.{◌≡◌, ℕ, ◌<◌, Bool, true, false, cond, List, [], ◌∷◌, ◌++◌, Option, None, Some, MatchOption, length, get_or, Bor}
 use Rattle.std.proofs.Common.{ap, sym, ◌∙◌, subst, arith, ⊎_elim, ◌⊎◌}
 use Rattle.std.proofs.lemmas.Grind.{common_steps}

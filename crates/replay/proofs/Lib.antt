@@ -1,1 +1,2 @@
+-- How a line is cut into fields.
 mod Cuts
