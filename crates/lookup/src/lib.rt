@@ -95,7 +95,8 @@ fn lookup_at(rows: &[u64], from: RowClause, wanted: usize) -> Result<ColumnValue
     partial_answer(clause_lookup(rows, from, wanted))
 }
 
-// Answers of a clause of a predicate. Inlined in both entries: an answer that comes back through memory is copied in parts, and a short lookup takes two fifths more.
+// Answers of a clause of a predicate. Inlined in both entries: an answer that comes back through memory is copied in parts, and then a short lookup takes two
+// fifths more.
 #[inline(always)]
 #[tactic(auto, using(crate::proofs::AnswerOfClause::lookup_of_tree))]
 fn lookup_of(
